@@ -1,0 +1,4 @@
+pub mod Rungs
+pub mod Any
+pub mod Quotes
+pub mod Packing
