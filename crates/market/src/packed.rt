@@ -1,15 +1,21 @@
+// A board over 240 bytes that the host lends.
 ghost use mathlib.Core.Path.{_≡_};
+ghost use mathlib.Core.List.{List};
 ghost use Prim.Native.Nat.{ℕ, _+_, _-_, _*_, _%_, _<_, _≤_};
 ghost use lib.ListN.{length, getD, set, replicate};
 ghost use denote.Ref.{now as held, name};
-ghost use Rattle.market.specs.Packing.{word, quote-at, unpacked, length-unpacked};
-ghost use Rattle.market.specs.Quotes.{absent};
+ghost use Rattle.market.specs.declared.board.Quote.{Quote};
+ghost use Rattle.market.specs.Packing.{word, quote-at, unpacked, length-unpacked, word-bytes, record-bytes, packed, overwritten, told-bytes};
+ghost use Rattle.market.specs.Quotes.{absent, told};
 ghost use Rattle.std.specs.declared.result.Result.the-variants.{Ok, Err};
 use super::board::Board;
 use super::board::Quote;
 use super::board::best_bid_of;
 use super::board::best_offer_of;
 use super::host::whole;
+
+// How many bytes fifteen records take.
+pub const BOARD_BYTES: usize = 240;
 
 // Why memory is refused as a board.
 #[derive(Clone, Copy, PartialEq, Eq, Debug)]
@@ -25,23 +31,23 @@ pub struct PackedBoard<'a> {
 }
 
 impl<'a> PackedBoard<'a> {
-    // The board that the memory holds already. Any length but 240 is refused.
-    pub fn over(memory: &'a mut [u8]) -> Result<PackedBoard<'a>, BoardFault>
-        ensures { λ r. ⌜ elim r [ Ok b ↦ (length (now (memory .entry)) ≡ 240) × (held (b .bytes) ≡ now (memory .entry)) × (name (b .bytes) ≡ name (memory .entry)) | Err e ↦ (length (now (memory .entry)) ≡ 240 → ⊥) × (e ≡ BoardFault.Length (length (now (memory .entry)))) ] ⌝ }
+    // A new board in memory of any length, which is tested first: any length but 240 is refused, and nothing written.
+    pub fn new(memory: &'a mut [u8]) -> Result<PackedBoard<'a>, BoardFault>
+        ensures { λ r. ⌜ elim r [ Ok b ↦ (length (now (memory .entry)) ≡ 240) × (held (b .bytes) ≡ replicate 240 0) × (name (b .bytes) ≡ name (memory .entry)) | Err e ↦ (length (now (memory .entry)) ≡ 240 → ⊥) × (e ≡ BoardFault.Length (length (now (memory .entry)))) ] ⌝ }
     {
-        let n = memory.len();
-        if n == 240 {
-            Ok(PackedBoard {
-                bytes: whole(memory),
-            })
-        } else {
-            Err(BoardFault::Length { found: n })
+        let found = memory.len();
+        if found != BOARD_BYTES {
+            return Err(BoardFault::Length { found });
         }
+        Ok(PackedBoard::on(whole(memory)))
     }
 
-    // A new board has all absent.
-    pub fn new(bytes: &'a mut [u8; 240]) -> PackedBoard<'a>
-        ensures { λ r. ⌜ unpacked (held (r .bytes)) ≡ replicate 15 absent ⌝ }
+    // A new board in an array of the right length: all fifteen absent, which is 240 zero bytes.
+    pub fn on(bytes: &'a mut [u8; 240]) -> PackedBoard<'a>
+        ensures absent { λ r. ⌜ unpacked (held (r .bytes)) ≡ replicate 15 absent ⌝ }
+        ensures bytes { λ r. ⌜ held (r .bytes) ≡ replicate 240 0 ⌝ }
+        ensures packed { λ r. ⌜ held (r .bytes) ≡ packed (replicate 15 absent) ⌝ }
+        ensures lender { λ r. ⌜ name (r .bytes) ≡ name (bytes .entry) ⌝ }
     {
         *bytes = [0; 240];
         PackedBoard { bytes }
@@ -53,7 +59,13 @@ pub impl<'a> Board for PackedBoard<'a> as PackedIsBoard {
 
     ghost fifteen = { λ s. length-unpacked (held (s .bytes)) };
 
-    fn tell(&mut self, exchange: u32, quote: Quote) {
+    // Besides the quotes it pins every byte, and keeps the lender's name, so that who lent an array learns what it holds.
+    fn tell(&mut self, exchange: u32, quote: Quote)
+        ensures quotes { λ _. ⌜ unpacked (held (now (self .exit) .bytes)) ≡ told (unpacked (held (now (self .entry) .bytes))) exchange quote ⌝ }
+        ensures bytes { λ _. ⌜ held (now (self .exit) .bytes) ≡ told-bytes (held (now (self .entry) .bytes)) exchange quote ⌝ }
+        ensures packed { λ _. ⌜ ((qs : List Quote) → length qs ≡ 15 → held (now (self .entry) .bytes) ≡ packed qs → held (now (self .exit) .bytes) ≡ packed (told qs exchange quote)) ⌝ }
+        ensures lender { λ _. ⌜ name (now (self .exit) .bytes) ≡ name (now (self .entry) .bytes) ⌝ }
+    {
         if exchange >= 1 && exchange <= 15 {
             put_quote(&mut *self.bytes, 16 * (exchange - 1) as usize, quote);
         }
@@ -111,6 +123,7 @@ fn put_word(bytes: &mut [u8], at: usize, n: u32)
     ensures there { λ _. ⌜ word (now (bytes .exit)) at ≡ n ⌝ }
     ensures before { λ _. ⌜ ((k : ℕ) → k < at → getD (now (bytes .exit)) k 0 ≡ getD (now (bytes .entry)) k 0) ⌝ }
     ensures after { λ _. ⌜ ((k : ℕ) → at + 4 ≤ k → getD (now (bytes .exit)) k 0 ≡ getD (now (bytes .entry)) k 0) ⌝ }
+    ensures exact { λ _. ⌜ now (bytes .exit) ≡ overwritten (now (bytes .entry)) at (word-bytes n) ⌝ }
 {
     let [a, b, c, d] = n.to_be_bytes();
     bytes[at] = a;
@@ -124,6 +137,7 @@ fn put_quote(bytes: &mut [u8], at: usize, quote: Quote)
     ensures there { λ _. ⌜ quote-at (now (bytes .exit)) at ≡ quote ⌝ }
     ensures before { λ _. ⌜ ((k : ℕ) → k < at → getD (now (bytes .exit)) k 0 ≡ getD (now (bytes .entry)) k 0) ⌝ }
     ensures after { λ _. ⌜ ((k : ℕ) → at + 16 ≤ k → getD (now (bytes .exit)) k 0 ≡ getD (now (bytes .entry)) k 0) ⌝ }
+    ensures exact { λ _. ⌜ now (bytes .exit) ≡ overwritten (now (bytes .entry)) at (record-bytes quote) ⌝ }
 {
     put_word(bytes, at, quote.bid);
     put_word(bytes, at + 4, quote.bid_size);
