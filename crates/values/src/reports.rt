@@ -16,13 +16,34 @@ pub enum Cause {
 #[derive(Clone, Copy)]
 pub enum Report {
     // An order is accepted.
-    New { arrival: u32, id: u32 },
+    New {
+        arrival: u32,
+        id: u32,
+    },
     // The taker, which is the order being processed, trades with the maker at the maker's booked price.
-    Fill { taker: u32, maker: u32, price: u32, size: u32 },
+    Fill {
+        taker: u32,
+        maker: u32,
+        price: u32,
+        size: u32,
+    },
     // An order rests at these prices.
-    Booked { arrival: u32, booked: u32, displayed: u32, remaining: u32 },
-    Cancelled { arrival: u32, size: u32, cause: Cause },
-    FilledAway { arrival: u32, slip: u32, size: u32 },
+    Booked {
+        arrival: u32,
+        booked: u32,
+        displayed: u32,
+        remaining: u32,
+    },
+    Cancelled {
+        arrival: u32,
+        size: u32,
+        cause: Cause,
+    },
+    FilledAway {
+        arrival: u32,
+        slip: u32,
+        size: u32,
+    },
 }
 
 // Contracts sent to an away exchange.
