@@ -3,10 +3,9 @@ ghost use mathlib.Core.Path.{_≡_};
 ghost use Prim.Native.Nat.{ℕ};
 ghost use Rattle.values.specs.Codes.{code, of-line, of-check, of-series, of-monitor, of-board};
 use market::packed::BoardFault;
-use market::packed::BoardFaultDebug;
 use market::packed::BoardFaultPartialEq;
 
-#[derive(Clone, Copy, PartialEq, Eq, Debug)]
+#[derive(Clone, Copy, PartialEq, Eq)]
 pub enum Layer {
     Line,
     Check,
@@ -16,7 +15,7 @@ pub enum Layer {
 }
 
 // What is wrong with a line as text.
-#[derive(Clone, Copy, PartialEq, Eq, Debug)]
+#[derive(Clone, Copy, PartialEq, Eq)]
 pub enum LineFault {
     // Empty, over 80 bytes, of no known kind, a first line that is no header, or a later header.
     NoCall,
@@ -27,7 +26,7 @@ pub enum LineFault {
 }
 
 // What is wrong with a field of a call, by its number in the line.
-#[derive(Clone, Copy, PartialEq, Eq, Debug)]
+#[derive(Clone, Copy, PartialEq, Eq)]
 pub enum CheckFault {
     OutOfRange { field: u32 },
     OffLadder { field: u32 },
@@ -36,7 +35,7 @@ pub enum CheckFault {
 }
 
 // Why the series as it stands cannot carry a call out.
-#[derive(Clone, Copy, PartialEq, Eq, Debug)]
+#[derive(Clone, Copy, PartialEq, Eq)]
 pub enum SeriesFault {
     NotOpen,
     AlreadyOpen,
@@ -52,7 +51,7 @@ pub enum SeriesFault {
 }
 
 // Why the monitor keeps an order from trading.
-#[derive(Clone, Copy, PartialEq, Eq, Debug)]
+#[derive(Clone, Copy, PartialEq, Eq)]
 pub enum MonitorFault {
     WideMarket,
     NoBid,
@@ -61,7 +60,7 @@ pub enum MonitorFault {
 }
 
 // A fault by its cause, which tells the layer that found it.
-#[derive(Clone, Copy, PartialEq, Eq, Debug)]
+#[derive(Clone, Copy, PartialEq, Eq)]
 pub enum Fault {
     Line(LineFault),
     Check(CheckFault),
@@ -71,7 +70,7 @@ pub enum Fault {
 }
 
 // A fault as it is reported.
-#[derive(Clone, Copy, PartialEq, Eq, Debug)]
+#[derive(Clone, Copy, PartialEq, Eq)]
 pub struct Code {
     pub number: u32,
     pub layer: Layer,

@@ -5,3 +5,4 @@ pub mod calls;
 pub mod faults;
 pub mod reports;
 pub mod terms;
+pub mod texts;

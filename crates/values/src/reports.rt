@@ -1,7 +1,7 @@
 // What a series answers: reports, and slips to away exchanges.
 
 // Why contracts are cancelled.
-#[derive(Clone, Copy, PartialEq, Eq, Debug)]
+#[derive(Clone, Copy, PartialEq, Eq)]
 pub enum Cause {
     // The desk asked for it.
     Asked,
