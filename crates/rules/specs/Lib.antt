@@ -13,3 +13,4 @@ pub mod Steps
 pub mod Sizes
 pub mod Histories
 pub mod Law
+pub mod Day

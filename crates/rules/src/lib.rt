@@ -1,6 +1,7 @@
 //! The rulebook as definitions in specs/, over the values below: what each call makes of a series, which calls are
 //! refused and why, and the law that every run of calls keeps. The series and the law cite these definitions.
 //! Knows ladders by their rungs and boards by their quotes alone; nothing here carries a call out.
+ghost use Rattle.rules.specs.Day.{One-day};
 use values::reports::Slip;
 use values::terms::Kind;
 use values::terms::Side;
@@ -53,4 +54,11 @@ pub struct Sent {
 pub struct Room {
     pub reports: u32,
     pub slips: u32,
+}
+
+// One day, call by call, is a run of a new series.
+pub fn day_stands() -> u8
+    ensures { λ _. ⌜ One-day ⌝ }
+{
+    0
 }
