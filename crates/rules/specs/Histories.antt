@@ -1,5 +1,6 @@
 -- What a history tells by itself, the latest event first. Assumes nothing.
 --     reports e, slips e          what an event wrote; a refusal writes nothing
+--     opened-in h                 whether the opening was accepted
 --     told-in h, best h           the quotes last told by accepted calls; the away best
 --     accepted h, numbered-in h   how many orders were accepted, and slips written
 --     out-in h                    the slips out: those that no accepted reply settled
@@ -7,7 +8,7 @@
 --     gone a h                    the four together
 --     price-in a h                its prices, by its last booking
 --     shown-in look s h a         its displayed price, where it rests on side s; `look` has what each was entered with
---     here-in look h              the best displayed bid and offer here
+--     touch-in look s h, here-in look h     the best displayed price of a side here; the bid and the offer
 --     entry R h a                 what it was entered with, by the history before it
 use mathlib.Core.Bool.{Bool, true, false, cond, not, _&&_}
 use mathlib.Core.List.{List, [], _∷_, _++_}
