@@ -1,0 +1,3 @@
+pub mod Rungs
+pub mod Refusals
+pub mod Day

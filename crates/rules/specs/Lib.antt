@@ -1,0 +1,16 @@
+pub mod Sides
+pub mod Ladders
+pub mod Book
+pub mod Monitor
+pub mod Trading
+pub mod Routing
+pub mod Resting
+pub mod Quoting
+pub mod Slips
+pub mod States
+pub mod Faults
+pub mod Steps
+pub mod Sizes
+pub mod Histories
+pub mod Law
+pub mod Day
