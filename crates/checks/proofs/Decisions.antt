@@ -73,28 +73,17 @@ limit-at Market n =
     by-test (judge 4 8 (Limit-fits letter.M n)) (λ v. v ≡ n) (leb 0 n && leb n 0) n (OutOfRange 8) refl refl
     (λ t. (grind (arith, tells), λ m. grind (arith, tells), λ z. refl))
     (λ t fits. let z : n ≡ 0 = fits .1 refl in grind (arith, tells))
-<<<<<<< HEAD
 limit-at Limit n = not-m Limit n (λ e. grind arith)
 limit-at Immediate n = not-m Immediate n (λ e. grind arith)
 limit-at AllOrNone n = not-m AllOrNone n (λ e. grind arith)
-=======
-limit-at Limit n = not-m Limit n (λ e. let z : _≡_ {A = ℕ} 0 1 = cc in omega arith)
-limit-at Immediate n = not-m Immediate n (λ e. let z : _≡_ {A = ℕ} 0 1 = cc in omega arith)
-limit-at AllOrNone n = not-m AllOrNone n (λ e. let z : _≡_ {A = ℕ} 0 1 = cc in omega arith)
->>>>>>> a20bdad6769b2721ed43d805c0f6ff0e39843331
 
 pub limit-decides : (l : Letter) (k : Kind) (n : ℕ) → kind-letter k ≡ l → Decides-one (judge 4 8 (Limit-fits l n)) (λ v. v ≡ n) (limit-by k n)
 limit-decides l k n e = subst (λ x. Decides-one (judge 4 8 (Limit-fits x n)) (λ v. v ≡ n) (limit-by k n)) e (limit-at k n)
 
 handled-at : (k : Kind) → Decides-one (judge 6 6 (Either-letter letter.I letter.K (kind-letter k) → ⊥)) (λ v. v ≡ k) (handled k)
 unfolding Decides-one
-<<<<<<< HEAD
 handled-at Limit = (λ h. grind arith, refl)
 handled-at Market = (λ h. grind arith, refl)
-=======
-handled-at Limit = (λ h. elim h [ inl e ↦ (let z : _≡_ {A = ℕ} 0 1 = cc in omega arith) | inr e ↦ (let z : _≡_ {A = ℕ} 0 1 = cc in omega arith) ], refl)
-handled-at Market = (λ h. elim h [ inl e ↦ (let z : _≡_ {A = ℕ} 0 1 = cc in omega arith) | inr e ↦ (let z : _≡_ {A = ℕ} 0 1 = cc in omega arith) ], refl)
->>>>>>> a20bdad6769b2721ed43d805c0f6ff0e39843331
 handled-at Immediate = (refl, λ h. h (inl refl))
 handled-at AllOrNone = (refl, λ h. h (inr refl))
 
@@ -106,7 +95,6 @@ unfolding Decides-one
 ladder-decides letter.P = (inl refl, refl)
 ladder-decides letter.M = (inr (inl refl), refl)
 ladder-decides letter.N = (inr (inr refl), refl)
-<<<<<<< HEAD
 ladder-decides letter.B = (refl, λ h. grind arith)
 ladder-decides letter.S = (refl, λ h. grind arith)
 ladder-decides letter.C = (refl, λ h. grind arith)
@@ -176,74 +164,3 @@ mark-decides letter.K = (refl, λ h. grind arith)
 mark-decides letter.R = (inl refl, refl)
 mark-decides letter.D = (inr refl, refl)
 mark-decides (letter.Unlisted c) = (refl, λ h. grind arith)
-=======
-ladder-decides letter.B = (refl, λ h. elim h [ inl e ↦ (let z : _≡_ {A = ℕ} 0 1 = cc in omega arith) | inr g ↦ elim g [ inl e ↦ (let z : _≡_ {A = ℕ} 0 1 = cc in omega arith) | inr e ↦ (let z : _≡_ {A = ℕ} 0 1 = cc in omega arith) ] ])
-ladder-decides letter.S = (refl, λ h. elim h [ inl e ↦ (let z : _≡_ {A = ℕ} 0 1 = cc in omega arith) | inr g ↦ elim g [ inl e ↦ (let z : _≡_ {A = ℕ} 0 1 = cc in omega arith) | inr e ↦ (let z : _≡_ {A = ℕ} 0 1 = cc in omega arith) ] ])
-ladder-decides letter.C = (refl, λ h. elim h [ inl e ↦ (let z : _≡_ {A = ℕ} 0 1 = cc in omega arith) | inr g ↦ elim g [ inl e ↦ (let z : _≡_ {A = ℕ} 0 1 = cc in omega arith) | inr e ↦ (let z : _≡_ {A = ℕ} 0 1 = cc in omega arith) ] ])
-ladder-decides letter.L = (refl, λ h. elim h [ inl e ↦ (let z : _≡_ {A = ℕ} 0 1 = cc in omega arith) | inr g ↦ elim g [ inl e ↦ (let z : _≡_ {A = ℕ} 0 1 = cc in omega arith) | inr e ↦ (let z : _≡_ {A = ℕ} 0 1 = cc in omega arith) ] ])
-ladder-decides letter.I = (refl, λ h. elim h [ inl e ↦ (let z : _≡_ {A = ℕ} 0 1 = cc in omega arith) | inr g ↦ elim g [ inl e ↦ (let z : _≡_ {A = ℕ} 0 1 = cc in omega arith) | inr e ↦ (let z : _≡_ {A = ℕ} 0 1 = cc in omega arith) ] ])
-ladder-decides letter.K = (refl, λ h. elim h [ inl e ↦ (let z : _≡_ {A = ℕ} 0 1 = cc in omega arith) | inr g ↦ elim g [ inl e ↦ (let z : _≡_ {A = ℕ} 0 1 = cc in omega arith) | inr e ↦ (let z : _≡_ {A = ℕ} 0 1 = cc in omega arith) ] ])
-ladder-decides letter.R = (refl, λ h. elim h [ inl e ↦ (let z : _≡_ {A = ℕ} 0 1 = cc in omega arith) | inr g ↦ elim g [ inl e ↦ (let z : _≡_ {A = ℕ} 0 1 = cc in omega arith) | inr e ↦ (let z : _≡_ {A = ℕ} 0 1 = cc in omega arith) ] ])
-ladder-decides letter.D = (refl, λ h. elim h [ inl e ↦ (let z : _≡_ {A = ℕ} 0 1 = cc in omega arith) | inr g ↦ elim g [ inl e ↦ (let z : _≡_ {A = ℕ} 0 1 = cc in omega arith) | inr e ↦ (let z : _≡_ {A = ℕ} 0 1 = cc in omega arith) ] ])
-ladder-decides (letter.Unlisted c) = (refl, λ h. elim h [ inl e ↦ (let z : _≡_ {A = ℕ} 0 1 = cc in omega arith) | inr g ↦ elim g [ inl e ↦ (let z : _≡_ {A = ℕ} 0 1 = cc in omega arith) | inr e ↦ (let z : _≡_ {A = ℕ} 0 1 = cc in omega arith) ] ])
-
-pub side-decides : (l : Letter) → Decides-one (judge 4 4 (Either-letter letter.B letter.S l)) (λ v. side-letter v ≡ l) (listed 4 (side-by l))
-unfolding Decides-one
-side-decides letter.P = (refl, λ h. elim h [ inl e ↦ (let z : _≡_ {A = ℕ} 0 1 = cc in omega arith) | inr e ↦ (let z : _≡_ {A = ℕ} 0 1 = cc in omega arith) ])
-side-decides letter.M = (refl, λ h. elim h [ inl e ↦ (let z : _≡_ {A = ℕ} 0 1 = cc in omega arith) | inr e ↦ (let z : _≡_ {A = ℕ} 0 1 = cc in omega arith) ])
-side-decides letter.N = (refl, λ h. elim h [ inl e ↦ (let z : _≡_ {A = ℕ} 0 1 = cc in omega arith) | inr e ↦ (let z : _≡_ {A = ℕ} 0 1 = cc in omega arith) ])
-side-decides letter.B = (inl refl, refl)
-side-decides letter.S = (inr refl, refl)
-side-decides letter.C = (refl, λ h. elim h [ inl e ↦ (let z : _≡_ {A = ℕ} 0 1 = cc in omega arith) | inr e ↦ (let z : _≡_ {A = ℕ} 0 1 = cc in omega arith) ])
-side-decides letter.L = (refl, λ h. elim h [ inl e ↦ (let z : _≡_ {A = ℕ} 0 1 = cc in omega arith) | inr e ↦ (let z : _≡_ {A = ℕ} 0 1 = cc in omega arith) ])
-side-decides letter.I = (refl, λ h. elim h [ inl e ↦ (let z : _≡_ {A = ℕ} 0 1 = cc in omega arith) | inr e ↦ (let z : _≡_ {A = ℕ} 0 1 = cc in omega arith) ])
-side-decides letter.K = (refl, λ h. elim h [ inl e ↦ (let z : _≡_ {A = ℕ} 0 1 = cc in omega arith) | inr e ↦ (let z : _≡_ {A = ℕ} 0 1 = cc in omega arith) ])
-side-decides letter.R = (refl, λ h. elim h [ inl e ↦ (let z : _≡_ {A = ℕ} 0 1 = cc in omega arith) | inr e ↦ (let z : _≡_ {A = ℕ} 0 1 = cc in omega arith) ])
-side-decides letter.D = (refl, λ h. elim h [ inl e ↦ (let z : _≡_ {A = ℕ} 0 1 = cc in omega arith) | inr e ↦ (let z : _≡_ {A = ℕ} 0 1 = cc in omega arith) ])
-side-decides (letter.Unlisted c) = (refl, λ h. elim h [ inl e ↦ (let z : _≡_ {A = ℕ} 0 1 = cc in omega arith) | inr e ↦ (let z : _≡_ {A = ℕ} 0 1 = cc in omega arith) ])
-
-pub origin-decides : (l : Letter) → Decides-one (judge 4 5 (Either-letter letter.C letter.N l)) (λ v. origin-letter v ≡ l) (listed 5 (origin-by l))
-unfolding Decides-one
-origin-decides letter.P = (refl, λ h. elim h [ inl e ↦ (let z : _≡_ {A = ℕ} 0 1 = cc in omega arith) | inr e ↦ (let z : _≡_ {A = ℕ} 0 1 = cc in omega arith) ])
-origin-decides letter.M = (refl, λ h. elim h [ inl e ↦ (let z : _≡_ {A = ℕ} 0 1 = cc in omega arith) | inr e ↦ (let z : _≡_ {A = ℕ} 0 1 = cc in omega arith) ])
-origin-decides letter.N = (inr refl, refl)
-origin-decides letter.B = (refl, λ h. elim h [ inl e ↦ (let z : _≡_ {A = ℕ} 0 1 = cc in omega arith) | inr e ↦ (let z : _≡_ {A = ℕ} 0 1 = cc in omega arith) ])
-origin-decides letter.S = (refl, λ h. elim h [ inl e ↦ (let z : _≡_ {A = ℕ} 0 1 = cc in omega arith) | inr e ↦ (let z : _≡_ {A = ℕ} 0 1 = cc in omega arith) ])
-origin-decides letter.C = (inl refl, refl)
-origin-decides letter.L = (refl, λ h. elim h [ inl e ↦ (let z : _≡_ {A = ℕ} 0 1 = cc in omega arith) | inr e ↦ (let z : _≡_ {A = ℕ} 0 1 = cc in omega arith) ])
-origin-decides letter.I = (refl, λ h. elim h [ inl e ↦ (let z : _≡_ {A = ℕ} 0 1 = cc in omega arith) | inr e ↦ (let z : _≡_ {A = ℕ} 0 1 = cc in omega arith) ])
-origin-decides letter.K = (refl, λ h. elim h [ inl e ↦ (let z : _≡_ {A = ℕ} 0 1 = cc in omega arith) | inr e ↦ (let z : _≡_ {A = ℕ} 0 1 = cc in omega arith) ])
-origin-decides letter.R = (refl, λ h. elim h [ inl e ↦ (let z : _≡_ {A = ℕ} 0 1 = cc in omega arith) | inr e ↦ (let z : _≡_ {A = ℕ} 0 1 = cc in omega arith) ])
-origin-decides letter.D = (refl, λ h. elim h [ inl e ↦ (let z : _≡_ {A = ℕ} 0 1 = cc in omega arith) | inr e ↦ (let z : _≡_ {A = ℕ} 0 1 = cc in omega arith) ])
-origin-decides (letter.Unlisted c) = (refl, λ h. elim h [ inl e ↦ (let z : _≡_ {A = ℕ} 0 1 = cc in omega arith) | inr e ↦ (let z : _≡_ {A = ℕ} 0 1 = cc in omega arith) ])
-
-pub kind-decides : (l : Letter) → Decides-one (judge 4 6 (Either-letter letter.L letter.M l ⊎ Either-letter letter.I letter.K l)) (λ v. kind-letter v ≡ l) (listed 6 (kind-by l))
-unfolding Decides-one
-kind-decides letter.P = (refl, λ h. elim h [ inl g ↦ elim g [ inl e ↦ (let z : _≡_ {A = ℕ} 0 1 = cc in omega arith) | inr e ↦ (let z : _≡_ {A = ℕ} 0 1 = cc in omega arith) ] | inr g ↦ elim g [ inl e ↦ (let z : _≡_ {A = ℕ} 0 1 = cc in omega arith) | inr e ↦ (let z : _≡_ {A = ℕ} 0 1 = cc in omega arith) ] ])
-kind-decides letter.M = (inl (inr refl), refl)
-kind-decides letter.N = (refl, λ h. elim h [ inl g ↦ elim g [ inl e ↦ (let z : _≡_ {A = ℕ} 0 1 = cc in omega arith) | inr e ↦ (let z : _≡_ {A = ℕ} 0 1 = cc in omega arith) ] | inr g ↦ elim g [ inl e ↦ (let z : _≡_ {A = ℕ} 0 1 = cc in omega arith) | inr e ↦ (let z : _≡_ {A = ℕ} 0 1 = cc in omega arith) ] ])
-kind-decides letter.B = (refl, λ h. elim h [ inl g ↦ elim g [ inl e ↦ (let z : _≡_ {A = ℕ} 0 1 = cc in omega arith) | inr e ↦ (let z : _≡_ {A = ℕ} 0 1 = cc in omega arith) ] | inr g ↦ elim g [ inl e ↦ (let z : _≡_ {A = ℕ} 0 1 = cc in omega arith) | inr e ↦ (let z : _≡_ {A = ℕ} 0 1 = cc in omega arith) ] ])
-kind-decides letter.S = (refl, λ h. elim h [ inl g ↦ elim g [ inl e ↦ (let z : _≡_ {A = ℕ} 0 1 = cc in omega arith) | inr e ↦ (let z : _≡_ {A = ℕ} 0 1 = cc in omega arith) ] | inr g ↦ elim g [ inl e ↦ (let z : _≡_ {A = ℕ} 0 1 = cc in omega arith) | inr e ↦ (let z : _≡_ {A = ℕ} 0 1 = cc in omega arith) ] ])
-kind-decides letter.C = (refl, λ h. elim h [ inl g ↦ elim g [ inl e ↦ (let z : _≡_ {A = ℕ} 0 1 = cc in omega arith) | inr e ↦ (let z : _≡_ {A = ℕ} 0 1 = cc in omega arith) ] | inr g ↦ elim g [ inl e ↦ (let z : _≡_ {A = ℕ} 0 1 = cc in omega arith) | inr e ↦ (let z : _≡_ {A = ℕ} 0 1 = cc in omega arith) ] ])
-kind-decides letter.L = (inl (inl refl), refl)
-kind-decides letter.I = (inr (inl refl), refl)
-kind-decides letter.K = (inr (inr refl), refl)
-kind-decides letter.R = (refl, λ h. elim h [ inl g ↦ elim g [ inl e ↦ (let z : _≡_ {A = ℕ} 0 1 = cc in omega arith) | inr e ↦ (let z : _≡_ {A = ℕ} 0 1 = cc in omega arith) ] | inr g ↦ elim g [ inl e ↦ (let z : _≡_ {A = ℕ} 0 1 = cc in omega arith) | inr e ↦ (let z : _≡_ {A = ℕ} 0 1 = cc in omega arith) ] ])
-kind-decides letter.D = (refl, λ h. elim h [ inl g ↦ elim g [ inl e ↦ (let z : _≡_ {A = ℕ} 0 1 = cc in omega arith) | inr e ↦ (let z : _≡_ {A = ℕ} 0 1 = cc in omega arith) ] | inr g ↦ elim g [ inl e ↦ (let z : _≡_ {A = ℕ} 0 1 = cc in omega arith) | inr e ↦ (let z : _≡_ {A = ℕ} 0 1 = cc in omega arith) ] ])
-kind-decides (letter.Unlisted c) = (refl, λ h. elim h [ inl g ↦ elim g [ inl e ↦ (let z : _≡_ {A = ℕ} 0 1 = cc in omega arith) | inr e ↦ (let z : _≡_ {A = ℕ} 0 1 = cc in omega arith) ] | inr g ↦ elim g [ inl e ↦ (let z : _≡_ {A = ℕ} 0 1 = cc in omega arith) | inr e ↦ (let z : _≡_ {A = ℕ} 0 1 = cc in omega arith) ] ])
-
-pub mark-decides : (l : Letter) → Decides-one (judge 4 7 (Either-letter letter.R letter.D l)) (λ v. mark-letter v ≡ l) (listed 7 (mark-by l))
-unfolding Decides-one
-mark-decides letter.P = (refl, λ h. elim h [ inl e ↦ (let z : _≡_ {A = ℕ} 0 1 = cc in omega arith) | inr e ↦ (let z : _≡_ {A = ℕ} 0 1 = cc in omega arith) ])
-mark-decides letter.M = (refl, λ h. elim h [ inl e ↦ (let z : _≡_ {A = ℕ} 0 1 = cc in omega arith) | inr e ↦ (let z : _≡_ {A = ℕ} 0 1 = cc in omega arith) ])
-mark-decides letter.N = (refl, λ h. elim h [ inl e ↦ (let z : _≡_ {A = ℕ} 0 1 = cc in omega arith) | inr e ↦ (let z : _≡_ {A = ℕ} 0 1 = cc in omega arith) ])
-mark-decides letter.B = (refl, λ h. elim h [ inl e ↦ (let z : _≡_ {A = ℕ} 0 1 = cc in omega arith) | inr e ↦ (let z : _≡_ {A = ℕ} 0 1 = cc in omega arith) ])
-mark-decides letter.S = (refl, λ h. elim h [ inl e ↦ (let z : _≡_ {A = ℕ} 0 1 = cc in omega arith) | inr e ↦ (let z : _≡_ {A = ℕ} 0 1 = cc in omega arith) ])
-mark-decides letter.C = (refl, λ h. elim h [ inl e ↦ (let z : _≡_ {A = ℕ} 0 1 = cc in omega arith) | inr e ↦ (let z : _≡_ {A = ℕ} 0 1 = cc in omega arith) ])
-mark-decides letter.L = (refl, λ h. elim h [ inl e ↦ (let z : _≡_ {A = ℕ} 0 1 = cc in omega arith) | inr e ↦ (let z : _≡_ {A = ℕ} 0 1 = cc in omega arith) ])
-mark-decides letter.I = (refl, λ h. elim h [ inl e ↦ (let z : _≡_ {A = ℕ} 0 1 = cc in omega arith) | inr e ↦ (let z : _≡_ {A = ℕ} 0 1 = cc in omega arith) ])
-mark-decides letter.K = (refl, λ h. elim h [ inl e ↦ (let z : _≡_ {A = ℕ} 0 1 = cc in omega arith) | inr e ↦ (let z : _≡_ {A = ℕ} 0 1 = cc in omega arith) ])
-mark-decides letter.R = (inl refl, refl)
-mark-decides letter.D = (inr refl, refl)
-mark-decides (letter.Unlisted c) = (refl, λ h. elim h [ inl e ↦ (let z : _≡_ {A = ℕ} 0 1 = cc in omega arith) | inr e ↦ (let z : _≡_ {A = ℕ} 0 1 = cc in omega arith) ])
->>>>>>> a20bdad6769b2721ed43d805c0f6ff0e39843331

@@ -4,6 +4,7 @@
 --     Fairly R h          every fill was fair when it was made
 --     Consecutive k ss    the slips are numbered k, k + 1, ..
 --     Counted h           arrival numbers count acceptances from 1, slip numbers slips
+--     Answered h          each accepted reply settled a slip that was out, and accounts for the whole of it
 --     Rests R h a         the a-th order rests: more of it was entered than was filled, cancelled or is out
 --     Lawful R h          what every history keeps, in terms of calls, reports and slips alone
 --     Kept R h s          the tables have what the history says, and nothing else
@@ -30,7 +31,7 @@ use Rattle.rules.specs.Slips.{no-sent, sent-at, Out-there}
 use Rattle.rules.specs.States.{State}
 use Rattle.rules.specs.Steps.{Event, Run}
 use Rattle.rules.specs.Steps.Event.{did, refused}
-use Rattle.rules.specs.Sizes.{resting, news}
+use Rattle.rules.specs.Sizes.{resting, away, cancelled, news}
 use Rattle.rules.specs.Histories.{reports, slips, opened-in, told-in, best, accepted, numbered-in, out-in, gone, price-in, entry}
 
 abbrev pub Within : Terms → ℕ → Type 0
@@ -66,6 +67,23 @@ Counted [] = Unit {0}
 Counted (did c m rs ss ∷ h) = (news rs ≡ announced c (suc (accepted h))) × Consecutive (suc (numbered-in h)) ss × Counted h
 Counted (refused c m f ∷ h) = Counted h
 
+-- what a reply reports filled away and cancelled makes up the slip, which was out until then
+pub record Settles (h : List Event) (n f : ℕ) (rs : List Report) : Type 0 where
+  pub slip : Slip
+  pub was-out : Has (out-in h) slip
+  pub named : slip .number ≡ n
+  pub part : away (slip .arrival) rs ≡ f
+  pub whole : away (slip .arrival) rs + cancelled (slip .arrival) rs ≡ slip .size
+
+abbrev pub Answered : List Event → Type 0
+Answered [] = Unit {0}
+Answered (did call.Open m rs ss ∷ h) = Answered h
+Answered (did (call.Away x q) m rs ss ∷ h) = Answered h
+Answered (did (call.Order f) m rs ss ∷ h) = Answered h
+Answered (did (call.Cancel id) m rs ss ∷ h) = Answered h
+Answered (did (call.Reply n f) m rs ss ∷ h) = Settles h n f rs × Answered h
+Answered (refused c m f ∷ h) = Answered h
+
 abbrev pub Rests : (ℕ → Bool) → List Event → ℕ → Type 0
 Rests R h a = gone a h < entry R h a .size
 
@@ -83,6 +101,8 @@ pub record Lawful (R : ℕ → Bool) (h : List Event) : Type 0 where
   -- no call writes more than 128 reports or 15 slips
   pub room : All (λ e. (length (reports e) ≤ 128) × (length (slips e) ≤ 15)) h
   pub counted : Counted h
+  -- a slip is settled once, and whole
+  pub answered : Answered h
 
 pub record Kept (R : ℕ → Bool) (h : List Event) (s : State) : Type 0 where
   -- entered = filled here + filled away + cancelled + out on slips + resting
