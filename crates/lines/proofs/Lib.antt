@@ -1,0 +1,5 @@
+pub mod Values
+pub mod Tests
+pub mod Cuts
+pub mod Splits
+pub mod Breaks

@@ -1,0 +1,5 @@
+pub mod Digits
+pub mod Words
+pub mod Handing
+pub mod Calls
+pub mod Inputs
