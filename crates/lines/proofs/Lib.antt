@@ -3,3 +3,6 @@ pub mod Tests
 pub mod Cuts
 pub mod Splits
 pub mod Breaks
+pub mod Naming
+pub mod Leftmost
+pub mod Refusing

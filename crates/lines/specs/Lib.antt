@@ -3,3 +3,4 @@ pub mod Words
 pub mod Handing
 pub mod Calls
 pub mod Inputs
+pub mod Laws

@@ -4,4 +4,5 @@
 pub mod calls;
 pub mod digits;
 pub mod fields;
+pub mod laws;
 pub mod records;
