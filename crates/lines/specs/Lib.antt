@@ -1,0 +1,6 @@
+pub mod Digits
+pub mod Words
+pub mod Handing
+pub mod Calls
+pub mod Inputs
+pub mod Laws
