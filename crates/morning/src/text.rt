@@ -2,6 +2,8 @@
 use super::tops::Tops;
 use market::board::Quote;
 use std::fmt;
+use values::calls::Call;
+use values::texts::CallDisplay;
 
 // One side of a quote: its name, price and size, or that there is none.
 #[derive(Clone, Copy)]
@@ -76,4 +78,9 @@ pub fn put_bytes(out: &mut String, bytes: &[u8]) -> fmt::Result {
         }
     }
     Ok(())
+}
+
+// A call that says nothing of the away market.
+pub fn put_passed_over(out: &mut String, call: Call) -> fmt::Result {
+    writeln!(out, "passed over: {call}")
 }
