@@ -1,6 +1,7 @@
 // The field checks of a header and of every call. All of row 4 is judged before row 5, and row 5 before row 6.
 ghost use mathlib.Core.Path.{_≡_};
 ghost use Rattle.checks.specs.Checked.{checked-header, checked-away, checked-order, checked-cancel, checked-reply, checked-call, routable as may-be-routed};
+ghost use Rattle.checks.specs.Law.{Header-judged, Call-judged};
 use super::checked::CheckedCall;
 use super::checked::CheckedOrder;
 use super::checked::Settings;
@@ -24,7 +25,15 @@ use values::faults::CheckFault;
 use values::terms::Mark;
 use values::terms::Origin;
 
+// The settings of a header, or the leftmost field of the topmost row that does not fit.
 pub fn check_header(header: Header) -> Result<Settings, CheckFault>
+    ensures value { λ r. ⌜ r ≡ checked-header header ⌝ }
+    ensures leftmost { λ r. ⌜ Header-judged header r ⌝ }
+{
+    settings_of(header)
+}
+
+fn settings_of(header: Header) -> Result<Settings, CheckFault>
     ensures { λ r. ⌜ r ≡ checked-header header ⌝ }
 {
     let ladder = ladder_by(header.ladder)?;
@@ -91,7 +100,15 @@ pub fn check_reply(slip: u32, filled: u32) -> Result<CheckedCall, CheckFault>
     Ok(CheckedCall::Reply { slip, filled })
 }
 
+// The call with its values, or the leftmost field of the topmost row that does not fit.
 pub fn check_call<L: Ladder>(ladder: &L, call: Call) -> Result<CheckedCall, CheckFault>
+    ensures value { λ r. ⌜ r ≡ checked-call (L·Ladder .rung (now (ladder .entry))) call ⌝ }
+    ensures leftmost { λ r. ⌜ Call-judged (L·Ladder .rung (now (ladder .entry))) call r ⌝ }
+{
+    by_kind(ladder, call)
+}
+
+fn by_kind<L: Ladder>(ladder: &L, call: Call) -> Result<CheckedCall, CheckFault>
     ensures { λ r. ⌜ r ≡ checked-call (L·Ladder .rung (now (ladder .entry))) call ⌝ }
 {
     match call {
