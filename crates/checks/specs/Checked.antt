@@ -1,9 +1,9 @@
 -- The field checks of a header and of every call: all of row 4 before row 5, row 5 before row 6, and the leftmost field of a row. Assumes nothing.
---     then r next           goes on with the value, or keeps the fault
---     checked-header h      the settings of a header
---     checked-order rung o  an order's fields as terms
---     checked-call rung c   a call that may be handed to the series, or the fault
---     routable o            a public customer's order that may be routed
+--     then r next                   goes on with the value, or keeps the fault
+--     checked-header h              the settings of a header, or the fault
+--     checked-away, checked-order, checked-cancel, checked-reply     a call of one kind by its fields, or the fault
+--     checked-call rung c           any call, or the fault
+--     routable o                    a public customer's order that may be routed
 use mathlib.Core.Bool.{Bool, true, false}
 use Prim.Native.Nat.{ℕ}
 use Rattle.std.specs.declared.result.Result.{Result}

@@ -47,13 +47,16 @@ pub record Judgment : Type 1 where
   pub field : ℕ
   pub Fits : Type 0
 
+-- a judgment by its parts
 abbrev pub judge : ℕ → ℕ → Type 0 → Judgment
 judge n field Fits = record { row-number = n; field = field; Fits = Fits }
 
+-- P holds of each
 abbrev pub Every : (Judgment → Type 0) → List Judgment → Type 0
 Every P [] = Unit {0}
 Every P (j ∷ js) = P j × Every P js
 
+-- P holds of one
 abbrev pub One : (Judgment → Type 0) → List Judgment → Type 0
 One P [] = ⊥
 One P (j ∷ js) = P j ⊎ One P js
@@ -83,6 +86,7 @@ Size-fits price size = (size ≤ 99999) × (price ≡ 0 → size ≡ 0) × (size
 abbrev pub Limit-fits : Letter → ℕ → Type 0
 Limit-fits kind limit = (limit ≤ 100000) × (kind ≡ letter.M → limit ≡ 0) × (limit ≡ 0 → kind ≡ letter.M)
 
+-- the letter l is a or b
 abbrev pub Either-letter : Letter → Letter → Letter → Type 0
 Either-letter a b l = (l ≡ a) ⊎ (l ≡ b)
 
@@ -129,6 +133,7 @@ cancel-rows id = judge 4 2 ((1 ≤ id) × (id ≤ 999999)) ∷ []
 abbrev pub reply-rows : ℕ → ℕ → List Judgment
 reply-rows slip filled = judge 4 2 ((1 ≤ slip) × (slip ≤ 15000000)) ∷ judge 4 3 (filled ≤ 9999) ∷ []
 
+-- by the kind of the call; opening has no fields
 abbrev pub call-rows : (ℕ → Bool) → Call → List Judgment
 call-rows rung call.Open = []
 call-rows rung (call.Away exchange quote) = away-rows rung exchange quote
@@ -142,6 +147,7 @@ ladder-letter Cents = letter.P
 ladder-letter CentsThenFives = letter.M
 ladder-letter FivesThenTens = letter.N
 
+-- the letter of each term
 abbrev pub side-letter : Side → Letter
 side-letter Buy = letter.B
 side-letter Sell = letter.S
