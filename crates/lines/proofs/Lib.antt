@@ -6,3 +6,5 @@ pub mod Breaks
 pub mod Naming
 pub mod Leftmost
 pub mod Refusing
+pub mod Accepting
+pub mod Saying
