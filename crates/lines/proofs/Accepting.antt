@@ -109,13 +109,13 @@ by-named : {R : Type 0} (forms : ℕ → Option (Form R)) (bs : List ℕ) (r : R
 by-named forms bs r None is e = let z : _≡_ {A = ℕ} 0 1 = cc in absurd (omega arith)
 by-named forms bs r (Some form) is e =
     elim (cases-eq (length (rest-of (fields bs)) + 1) (length (form .sorts) + 1)) [
-      inl same ↦
-        let at = first forms (fields bs) form (short (leb (length bs) 80) (by-first forms (fields bs)) form is) in
-        let so = ends (form .sorts) (rest-of (fields bs)) 1 (form .make) r (omega arith) (sym (by-count form (rest-of (fields bs)) same) ∙ e) in
-        record { kind = at .0; form = form; rest = rest-of (fields bs); known = at .1; parts = at .2; ends-so = so }
+      | inl same ↦
+          let at = first forms (fields bs) form (short (leb (length bs) 80) (by-first forms (fields bs)) form is) in
+          let so = ends (form .sorts) (rest-of (fields bs)) 1 (form .make) r (omega arith) (sym (by-count form (rest-of (fields bs)) same) ∙ e) in
+          record { kind = at .0; form = form; rest = rest-of (fields bs); known = at .1; parts = at .2; ends-so = so }
       | inr differs ↦
-        let said = sym (by-miscount form (rest-of (fields bs)) differs) ∙ e in
-        let z : _≡_ {A = ℕ} 0 1 = cc in absurd (omega arith)
+          let said = sym (by-miscount form (rest-of (fields bs)) differs) ∙ e in
+          let z : _≡_ {A = ℕ} 0 1 = cc in absurd (omega arith)
     ]
 
 pub accepted : {R : Type 0} (forms : ℕ → Option (Form R)) → forms 9 ≡ None → (bs : List ℕ) (r : R) → read-line forms bs ≡ Ok r → Accepted forms bs r

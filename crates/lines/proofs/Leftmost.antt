@@ -45,10 +45,10 @@ leftmost [] fs p make f same e = let z : _≡_ {A = ℕ} 0 1 = cc in absurd (ome
 leftmost (s ∷ ss) [] p make f same e = absurd (omega arith)
 leftmost (s ∷ ss) (w ∷ fs) p make f same e =
     elim (one s (word-of w) (p + 1) (λ n. read-all ss fs (p + 1) (λ ns. make (n ∷ ns))) f (ap (λ r. and-then r (λ n. read-all ss fs (p + 1) (λ ns. make (n ∷ ns)))) (sym (field-is s w fs p)) ∙ e)) [
-      inl h ↦ (0, record { within = omega arith; unfit = h .0; before = λ j lt. absurd (omega arith) }, h .1 ∙ ap Unreadable (omega arith))
+      | inl h ↦ (0, record { within = omega arith; unfit = h .0; before = λ j lt. absurd (omega arith) }, h .1 ∙ ap Unreadable (omega arith))
       | inr h ↦
-        let rest = leftmost ss fs (p + 1) (λ ns. make (h .1 .0 ∷ ns)) f (omega arith) (h .1 .1) in
-        (suc (rest .0), later s ss w fs (rest .0) (h .0) (rest .1), rest .2 ∙ ap Unreadable (omega arith))
+          let rest = leftmost ss fs (p + 1) (λ ns. make (h .1 .0 ∷ ns)) f (omega arith) (h .1 .1) in
+          (suc (rest .0), later s ss w fs (rest .0) (h .0) (rest .1), rest .2 ∙ ap Unreadable (omega arith))
     ]
 
 stop : {R : Type 0} (s : Sort) (w : Word) (p : ℕ) (next : ℕ → Result R LineFault) → fit s w ≡ false → and-then (field-by s w p) next ≡ Err (Unreadable p)
@@ -77,5 +77,5 @@ refused-at (s ∷ ss) (w ∷ fs) p zero make same h =
     ap (λ r. and-then r (λ n. read-all ss fs (p + 1) (λ ns. make (n ∷ ns)))) (field-is s w fs p) ∙ stop s (word-of w) (p + 1) (λ n. read-all ss fs (p + 1) (λ ns. make (n ∷ ns))) (h .unfit) ∙ ap (λ q. Err (Unreadable q)) (omega arith)
 refused-at (s ∷ ss) (w ∷ fs) p (suc k) make same h =
     ap (λ r. and-then r (λ n. read-all ss fs (p + 1) (λ ns. make (n ∷ ns)))) (field-is s w fs p)
-      ∙ go s (word-of w) (p + 1) (λ n. read-all ss fs (p + 1) (λ ns. make (n ∷ ns))) (Err (Unreadable (p + 1 + k + 1))) (h .before 0 (omega arith)) (λ n. refused-at ss fs (p + 1) k (λ ns. make (n ∷ ns)) (omega arith) (sooner s ss w fs k h))
-      ∙ ap (λ q. Err (Unreadable q)) (omega arith)
+    ∙ go s (word-of w) (p + 1) (λ n. read-all ss fs (p + 1) (λ ns. make (n ∷ ns))) (Err (Unreadable (p + 1 + k + 1))) (h .before 0 (omega arith)) (λ n. refused-at ss fs (p + 1) k (λ ns. make (n ∷ ns)) (omega arith) (sooner s ss w fs k h))
+    ∙ ap (λ q. Err (Unreadable q)) (omega arith)

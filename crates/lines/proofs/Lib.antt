@@ -8,3 +8,6 @@ pub mod Leftmost
 pub mod Refusing
 pub mod Accepting
 pub mod Saying
+pub mod Numbers
+pub mod Rewriting
+pub mod Returning

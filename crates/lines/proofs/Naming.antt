@@ -33,7 +33,7 @@ unknown forms k fs none is = ap (λ x. by-form (forms x) fs) is ∙ ap (λ o. by
 one-byte : {R : Type 0} (forms : ℕ → Option (Form R)) (k : ℕ) → forms 9 ≡ None → by-form (forms k) [] ≡ by-form (by-first forms (fields (k ∷ []))) (rest-of (fields (k ∷ [])))
 one-byte forms k none =
     elim (cases-eq k 9) [
-      inl is ↦ unknown forms k [] none is ∙ sym (first-tab forms k [] is)
+      | inl is ↦ unknown forms k [] none is ∙ sym (first-tab forms k [] is)
       | inr not ↦ sym (ap (λ fs. by-form (by-first forms fs) (rest-of fs)) (other k [] not))
     ]
 
@@ -47,13 +47,13 @@ at-first forms k rest false none is = refl
 more-bytes : {R : Type 0} (forms : ℕ → Option (Form R)) (k t : ℕ) (rest : List ℕ) → forms 9 ≡ None → split forms k rest (eqb t 9) ≡ by-form (by-first forms (fields (k ∷ t ∷ rest))) (rest-of (fields (k ∷ t ∷ rest)))
 more-bytes forms k t rest none =
     elim (cases-eq k 9) [
-      inl is ↦ at-first forms k rest (eqb t 9) none is ∙ sym (first-tab forms k (t ∷ rest) is)
+      | inl is ↦ at-first forms k rest (eqb t 9) none is ∙ sym (first-tab forms k (t ∷ rest) is)
       | inr not ↦
-        elim (cases-eq t 9) [
-          inl tabbed ↦ ap (split forms k rest) (eq-eqb t 9 tabbed) ∙ sym (ap (λ fs. by-form (by-first forms fs) (rest-of fs)) (other k (t ∷ rest) not ∙ ap (grown k) (tab t rest tabbed)))
-          | inr letter ↦
-            ap (split forms k rest) (ne-eqb t 9 letter) ∙ sym (ap (λ fs. by-form (by-first forms fs) (rest-of fs)) (other k (t ∷ rest) not ∙ ap (grown k) (other t rest letter)) ∙ two-bytes forms k t (fields rest))
-        ]
+          elim (cases-eq t 9) [
+            | inl tabbed ↦ ap (split forms k rest) (eq-eqb t 9 tabbed) ∙ sym (ap (λ fs. by-form (by-first forms fs) (rest-of fs)) (other k (t ∷ rest) not ∙ ap (grown k) (tab t rest tabbed)))
+            | inr letter ↦
+                ap (split forms k rest) (ne-eqb t 9 letter) ∙ sym (ap (λ fs. by-form (by-first forms fs) (rest-of fs)) (other k (t ∷ rest) not ∙ ap (grown k) (other t rest letter)) ∙ two-bytes forms k t (fields rest))
+          ]
     ]
 
 by-fields : {R : Type 0} (forms : ℕ → Option (Form R)) (bs : List ℕ) → forms 9 ≡ None → by-kind forms bs ≡ by-form (by-first forms (fields bs)) (rest-of (fields bs))

@@ -53,13 +53,13 @@ why forms bs f None is e = let fault : f ≡ NoCall = cc in no-call is (ap (λ x
 why {R} forms bs f (Some form) is e =
     let count = after-kind (fields bs) (some-field bs) in
     elim (cases-eq (length (fields bs)) (width form)) [
-      inl same ↦
-        let found = leftmost (form .sorts) (rest-of (fields bs)) 1 (form .make) f (omega arith) (sym (by-count form (rest-of (fields bs)) (omega arith)) ∙ e) in
-        misread form (found .0) is same (found .1) (ap (λ x. code (of-line x)) (found .2) ∙ ap (row 3 Line) (omega arith))
+      | inl same ↦
+          let found = leftmost (form .sorts) (rest-of (fields bs)) 1 (form .make) f (omega arith) (sym (by-count form (rest-of (fields bs)) (omega arith)) ∙ e) in
+          misread form (found .0) is same (found .1) (ap (λ x. code (of-line x)) (found .2) ∙ ap (row 3 Line) (omega arith))
       | inr differs ↦
-        let said = sym (by-miscount form (rest-of (fields bs)) (λ same. differs (omega arith))) ∙ e in
-        let fault : f ≡ FieldCount (length (rest-of (fields bs)) + 1) = cc in
-        miscounted form is differs (ap (λ x. code (of-line x)) fault ∙ ap (row 2 Line) count)
+          let said = sym (by-miscount form (rest-of (fields bs)) (λ same. differs (omega arith))) ∙ e in
+          let fault : f ≡ FieldCount (length (rest-of (fields bs)) + 1) = cc in
+          miscounted form is differs (ap (λ x. code (of-line x)) fault ∙ ap (row 2 Line) count)
     ]
 
 refuses : {R : Type 0} (forms : ℕ → Option (Form R)) (bs : List ℕ) (f : LineFault) → Refused forms bs f → by-form (named forms bs) (rest-of (fields bs)) ≡ Err f
@@ -70,10 +70,10 @@ refuses forms bs f (miscounted form is differs at) =
 refuses forms bs f (misread form k is same first at) =
     let count = after-kind (fields bs) (some-field bs) in
     ap (λ o. by-form o (rest-of (fields bs))) is
-      ∙ by-count form (rest-of (fields bs)) (omega arith)
-      ∙ refused-at (form .sorts) (rest-of (fields bs)) 1 k (form .make) (omega arith) first
-      ∙ ap (λ n. Err (Unreadable n)) (omega arith)
-      ∙ ap Err (sym (only-third f (k + 2) at))
+    ∙ by-count form (rest-of (fields bs)) (omega arith)
+    ∙ refused-at (form .sorts) (rest-of (fields bs)) 1 k (form .make) (omega arith) first
+    ∙ ap (λ n. Err (Unreadable n)) (omega arith)
+    ∙ ap Err (sym (only-third f (k + 2) at))
 
 pub refusals : {R : Type 0} (forms : ℕ → Option (Form R)) → forms 9 ≡ None → Refusals forms
 refusals forms none bs f = (λ e. why forms bs f (named forms bs) refl (sym (line-named forms bs none) ∙ e), λ h. line-named forms bs none ∙ refuses forms bs f h)

@@ -34,27 +34,27 @@ Known c k = c ≡ letter-for k
 step : (c n : ℕ) (j k : CallKind) (o : Option CallKind) → letter-for j ≡ n → cond (eqb c n) (Some j) o ≡ Some k → (c ≡ letter-for k) ⊎ (o ≡ Some k)
 step c n j k o is e =
     elim (cases-eq c n) [
-      inl same ↦ let at : Some j ≡ Some k = sym (ap (λ b. cond b (Some j) o) (eq-eqb c n same)) ∙ e in let jk : j ≡ k = cc in inl (same ∙ sym is ∙ ap letter-for jk)
+      | inl same ↦ let at : Some j ≡ Some k = sym (ap (λ b. cond b (Some j) o) (eq-eqb c n same)) ∙ e in let jk : j ≡ k = cc in inl (same ∙ sym is ∙ ap letter-for jk)
       | inr other ↦ inr (sym (ap (λ b. cond b (Some j) o) (ne-eqb c n other)) ∙ e)
     ]
 
 pub known-letter : (c : ℕ) (k : CallKind) → kind-of c ≡ Some k → c ≡ letter-for k
 known-letter c k e =
     elim (step c 71 Open k (cond (eqb c 65) (Some Away) (cond (eqb c 79) (Some Order) (cond (eqb c 88) (Some Cancel) (cond (eqb c 82) (Some Reply) None)))) refl e) [
-      inl at ↦ at
+      | inl at ↦ at
       | inr e1 ↦
-        elim (step c 65 Away k (cond (eqb c 79) (Some Order) (cond (eqb c 88) (Some Cancel) (cond (eqb c 82) (Some Reply) None))) refl e1) [
-          inl at ↦ at
-          | inr e2 ↦
-            elim (step c 79 Order k (cond (eqb c 88) (Some Cancel) (cond (eqb c 82) (Some Reply) None)) refl e2) [
-              inl at ↦ at
-              | inr e3 ↦
-                elim (step c 88 Cancel k (cond (eqb c 82) (Some Reply) None) refl e3) [
-                  inl at ↦ at
-                  | inr e4 ↦ elim (step c 82 Reply k None refl e4) [ inl at ↦ at | inr e5 ↦ let z : _≡_ {A = ℕ} 0 1 = cc in absurd (omega arith) ]
+          elim (step c 65 Away k (cond (eqb c 79) (Some Order) (cond (eqb c 88) (Some Cancel) (cond (eqb c 82) (Some Reply) None))) refl e1) [
+            | inl at ↦ at
+            | inr e2 ↦
+                elim (step c 79 Order k (cond (eqb c 88) (Some Cancel) (cond (eqb c 82) (Some Reply) None)) refl e2) [
+                  | inl at ↦ at
+                  | inr e3 ↦
+                      elim (step c 88 Cancel k (cond (eqb c 82) (Some Reply) None) refl e3) [
+                        | inl at ↦ at
+                        | inr e4 ↦ elim (step c 82 Reply k None refl e4) [ inl at ↦ at | inr e5 ↦ let z : _≡_ {A = ℕ} 0 1 = cc in absurd (omega arith) ]
+                      ]
                 ]
-            ]
-        ]
+          ]
     ]
 
 form-known : (o : Option CallKind) (form : Form Call) → form-for o ≡ Some form → (k : CallKind) × (o ≡ Some k) × (form-of k ≡ form)
@@ -89,7 +89,7 @@ pub record Headed (bs : List ℕ) (h : Header) : Type 0 where
 the-form : (c : ℕ) (form : Form Header) → header-form c ≡ Some form → (c ≡ 72) × (the-header ≡ form)
 the-form c form e =
     elim (cases-eq c 72) [
-      inl same ↦ let at : Some the-header ≡ Some form = sym (ap (λ b. cond b (Some the-header) None) (eq-eqb c 72 same)) ∙ e in (same, cc)
+      | inl same ↦ let at : Some the-header ≡ Some form = sym (ap (λ b. cond b (Some the-header) None) (eq-eqb c 72 same)) ∙ e in (same, cc)
       | inr other ↦ let at : None ≡ Some form = sym (ap (λ b. cond b (Some the-header) None) (ne-eqb c 72 other)) ∙ e in let z : _≡_ {A = ℕ} 0 1 = cc in absurd (omega arith)
     ]
 

@@ -5,3 +5,4 @@ pub mod Calls
 pub mod Inputs
 pub mod Laws
 pub mod Accepts
+pub mod Rounds
