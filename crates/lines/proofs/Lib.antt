@@ -6,3 +6,8 @@ pub mod Breaks
 pub mod Naming
 pub mod Leftmost
 pub mod Refusing
+pub mod Accepting
+pub mod Saying
+pub mod Numbers
+pub mod Rewriting
+pub mod Returning

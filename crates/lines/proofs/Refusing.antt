@@ -41,10 +41,10 @@ only-third NoCall n e = let z : _≡_ {A = ℕ} 1 3 = ap (λ c. c .number) e in 
 only-third (FieldCount m) n e = let z : _≡_ {A = ℕ} 2 3 = ap (λ c. c .number) e in absurd (omega arith)
 only-third (Unreadable m) n e = ap (λ c. Unreadable (c .place)) e
 
-by-count : {R : Type 0} (form : Form R) (fs : List (List ℕ)) → length fs + 1 ≡ length (form .sorts) + 1 → read-by form fs ≡ read-all (form .sorts) fs 1 (form .make)
+pub by-count : {R : Type 0} (form : Form R) (fs : List (List ℕ)) → length fs + 1 ≡ length (form .sorts) + 1 → read-by form fs ≡ read-all (form .sorts) fs 1 (form .make)
 by-count form fs same = cond-true (eqb (length fs + 1) (length (form .sorts) + 1)) _ _ (eq-eqb _ _ same)
 
-by-miscount : {R : Type 0} (form : Form R) (fs : List (List ℕ)) → (length fs + 1 ≡ length (form .sorts) + 1 → ⊥) → read-by form fs ≡ Err (FieldCount (length fs + 1))
+pub by-miscount : {R : Type 0} (form : Form R) (fs : List (List ℕ)) → (length fs + 1 ≡ length (form .sorts) + 1 → ⊥) → read-by form fs ≡ Err (FieldCount (length fs + 1))
 by-miscount form fs other = cond-false (eqb (length fs + 1) (length (form .sorts) + 1)) _ _ (ne-eqb _ _ other)
 
 -- what a line is refused for, once the form that it names is known

@@ -4,3 +4,5 @@ pub mod Handing
 pub mod Calls
 pub mod Inputs
 pub mod Laws
+pub mod Accepts
+pub mod Rounds
