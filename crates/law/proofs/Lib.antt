@@ -1,0 +1,10 @@
+pub mod Seats
+pub mod Outs
+pub mod Filing
+pub mod Sharing
+pub mod Fields
+pub mod Good
+pub mod Replies
+pub mod Keeps
+pub mod Enters
+pub mod Whole
