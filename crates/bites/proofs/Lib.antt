@@ -1,0 +1,4 @@
+pub mod Runs
+pub mod Fills
+pub mod Bookings
+pub mod Replies
