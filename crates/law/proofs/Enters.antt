@@ -1,6 +1,5 @@
 -- An accepted order keeps a good state good. Assumes nothing.
 --     slips-entered      its slips are filed beside those that are out
---     book-entered       the book after its turn is in order
 --     after-entered      the whole
 use mathlib.Core.Path.{_≡_, refl, sym, ap, ap₂, subst, _∙_}
 use mathlib.Core.Bool.{Bool, true, false, cond}
@@ -10,14 +9,13 @@ use Prim.Native.Nat.{ℕ, suc, _+_, _<_, _≤_}
 use native.Mathlib.Omega.{arith}
 use lib.Dec.{eqb}
 use lib.ListN.{length}
-use Rattle.std.proofs.shelf.Tests.{cond-both, cases-eq, eqb-true, eqb-false, eq-eqb, ne-eqb}
+use Rattle.std.proofs.shelf.Tests.{cond-both, eqb-true, eqb-false, eq-eqb, ne-eqb}
 use Rattle.std.proofs.shelf.Sums.{sumBy-append}
 use Rattle.std.proofs.shelf.Elements.{all-append, all-weaker, all-has, all-has-itself, has-append-left, has-append-right}
 use Rattle.std.specs.shelf.Lists.{All, Has}
 use Rattle.std.specs.declared.option.Option.the-variants.{None}
 use Rattle.values.specs.declared.calls.OrderFields.{OrderFields}
 use Rattle.values.specs.declared.calls.Call.the-variants as call
-use Rattle.values.specs.declared.reports.Report.the-variants.{New}
 use Rattle.values.specs.declared.reports.Slip.{Slip}
 use Rattle.checks.specs.declared.checked.CheckedOrder.{CheckedOrder}
 use Rattle.checks.specs.Checked.{routable}
@@ -26,11 +24,11 @@ use Rattle.rules.specs.declared.Terms.{Terms}
 use Rattle.rules.specs.declared.Order.{Order}
 use Rattle.rules.specs.declared.Bests.{Bests}
 use Rattle.rules.specs.declared.Sent.{Sent}
-use Rattle.rules.specs.Book.{no-terms, free, at, Live, prices-of, here}
-use Rattle.rules.specs.Sizes.{share, slip-part, slipped, resting, latest}
+use Rattle.rules.specs.Book.{no-terms, free, at, here}
+use Rattle.rules.specs.Sizes.{share, slip-part, slipped, resting}
 use Rattle.rules.specs.Monitor.{admit}
 use Rattle.rules.specs.Routing.{bests, total, routing}
-use Rattle.rules.specs.Resting.{Turned, turn, fresh, enter}
+use Rattle.rules.specs.Resting.{Turned, enter}
 use Rattle.rules.specs.Slips.{vacancies, filed}
 use Rattle.rules.specs.States.{State, terms-now, entering}
 use Rattle.rules.specs.Faults.{refusal}
@@ -39,17 +37,15 @@ use Rattle.rules.specs.Steps.Event.{did, refused}
 use Rattle.rules.specs.Histories.{best, accepted, out-in, gone, price-in, here-in, entry}
 use Rattle.rules.specs.Law.{Fair, Consecutive}
 use Rattle.rules.proofs.Refusals.{order-rows, order-room}
-use Rattle.trading_laws.specs.Books.{Settled}
-use Rattle.trading_laws.specs.Turns.{After}
-use Rattle.trading_laws.proofs.Trade.{low-keeps}
-use Rattle.trading_laws.proofs.Turn.{settled-steady, turn-after}
-use Rattle.trading_laws.proofs.Telling.{stems-low}
+use Rattle.trading_laws.specs.Books.{Holds, Settled}
+use Rattle.trading_laws.specs.Turns.{Entered}
+use Rattle.trading_laws.proofs.Entry.{enter-entered}
 use Rattle.trading_laws.proofs.Room.{enter-room}
 use Rattle.law.proofs.Outs.{has-append-cases, unique-more}
 use Rattle.law.proofs.Filing.{Table, table-same, table-relook, table-low, filing, length-filed}
 use Rattle.law.proofs.Sharing.{Shared, routing-shared, slipped-all}
 use Rattle.law.proofs.Fields.{order-id}
-use Rattle.law.proofs.Good.{Slips-good, Book-good, Good, here-same}
+use Rattle.law.proofs.Good.{Slips-good, Good, here-same}
 
 -- ---- the slips
 pub slips-entered : (look other : ℕ → Terms) (L ss : List Slip) (n a id : ℕ) (b : List Sent) → ((x : ℕ) → x ≤ a → look x ≡ other x) → id ≡ other (suc a) .id → Consecutive (suc n) ss → All (λ x. (0 < x .size) × (x .arrival ≡ suc a)) ss → length ss ≤ vacancies b → Slips-good look L n a b → Slips-good other (ss ++ L) (n + length ss) (suc a) (filed id ss b)
@@ -77,34 +73,8 @@ slips-entered look other L ss n a id b same mine order each room g =
     from : (x : Slip) → Has (ss ++ L) x → Has L x ⊎ Has ss x
     from x m = elim (has-append-cases ss L x m) [ inl y ↦ inr y | inr y ↦ inl y ]
 
--- ---- the book
-module _ (e : Bests) (look : ℕ → Terms) (send : Order → List Slip) (n i : ℕ) (t : Terms) (b : List Order) (r : Turned) (a : After e look send i free (fresh (suc n) t) b r) (g : Book-good e look n b) where
-  pub whence : (j : ℕ) → Live (at (r .book) j) → ((j ≡ i) × (at (r .book) j .arrival ≡ suc n)) ⊎ (Live (at b j) × (at (r .book) j .arrival ≡ at b j .arrival))
-  whence j k = elim (cases-eq j i) [
-    | inl y ↦ inl (y, subst (λ x. Live (at (r .book) x) → at (r .book) x .arrival ≡ suc n) (sym y) (λ z. a .own z .0) k)
-    | inr ne ↦ inr (stems-low b (r .book) j (a .others j ne) k)
-  ]
-
-  apart : (j k x y : ℕ) → x ≡ y → ((j ≡ i) × (x ≡ suc n)) ⊎ (Live (at b j) × (x ≡ at b j .arrival)) → ((k ≡ i) × (y ≡ suc n)) ⊎ (Live (at b k) × (y ≡ at b k .arrival)) → j ≡ k
-  apart j k x y z (inl u) (inl v) = u .0 ∙ sym (v .0)
-  apart j k x y z (inl u) (inr v) = absurd (omega (arith, z, u .1, v .1, g .numbered k (v .0)))
-  apart j k x y z (inr u) (inl v) = absurd (omega (arith, z, u .1, v .1, g .numbered j (u .0)))
-  apart j k x y z (inr u) (inr v) = g .distinct j k (u .0) (v .0) (sym (u .1) ∙ z ∙ v .1)
-
-  pub book-entered : Book-good e look (suc n) (r .book)
-  book-entered = record {
-    settled = λ j k. elim (cases-eq j i) [
-      | inl y ↦ subst (λ x. Live (at (r .book) x) → Settled e look (at (r .book) x)) (sym y) (λ z. a .own z .1) k
-      | inr ne ↦ low-keeps (Settled e look) (a .others j ne) (settled-steady e look (at b j)) (g .settled j) k
-    ];
-    clear = a .clear;
-    distinct = λ j k x y z. apart j k (at (r .book) j .arrival) (at (r .book) k .arrival) z (whence j x) (whence k y);
-    numbered = λ j k. elim (whence j k) [ inl y ↦ (omega (arith, y .1), omega (arith, y .1)) | inr y ↦ (omega (arith, y .1, g .numbered j (y .0)), omega (arith, y .1, g .numbered j (y .0))) ];
-    clean = a .clean (g .clean);
-    places = a .long ∙ g .places;
-  }
-
 -- ---- what is entered
+-- a number that no order has yet
 entry-fresh : (R : ℕ → Bool) (h : List Event) (a : ℕ) → accepted h < a → entry R h a ≡ no-terms
 entry-fresh R [] a m = refl
 entry-fresh R (did call.Open x rs ss ∷ h) a m = entry-fresh R h a m
@@ -133,20 +103,20 @@ module _ (R : ℕ → Bool) (h : List Event) (s : State) (g : Good R h s) (f : O
   abbrev send : Order → List Slip
   send = routing (routable o) (s .quotes) e (s .numbered)
 
+  -- what the order is entered with, by the series
   abbrev t : Terms
   t = terms-now R s o
 
+  -- and by the history
   abbrev t′ : Terms
   t′ = admit R (best h) (here-in (entry R h) h) (order-in R f)
 
+  -- what each order was entered with, by the history that has this call too
   abbrev look : ℕ → Terms
   look n = cond (eqb (suc (accepted h)) n) t′ (entry R h n)
 
-  abbrev new : Order
-  new = fresh (suc (s .arrivals)) t
-
   abbrev r : Turned
-  r = turn e R send i free new b
+  r = enter e R send i (suc (s .arrivals)) t b
 
   same : t ≡ t′
   same = ap (admit R e (here b)) is ∙ ap₂ (λ w x. admit R w x (order-in R f)) (ap bests (g .quotes)) (here-same R h s g)
@@ -157,22 +127,18 @@ module _ (R : ℕ → Bool) (h : List Event) (s : State) (g : Good R h s) (f : O
   older : (n : ℕ) → n ≤ s .arrivals → look n ≡ entry R h n
   older n l = rw (ne-eqb (suc (accepted h)) n (λ z. omega (arith, z, l, g .arrivals))) refl
 
-  book : Book-good e look (s .arrivals) b
-  book = let k = g .book in record {
-    settled = λ j l. let d = k .settled j l in
-        record { held = record { known = older (at b j .arrival) (k .numbered j l .1) ∙ d .held .known; fits = d .held .fits; some = d .held .some }; tight = d .tight; shown = d .shown; behind = d .behind };
-    clear = k .clear;
-    distinct = k .distinct;
-    numbered = k .numbered;
-    clean = k .clean;
-    places = k .places;
-  }
+  -- the orders that rest are as settled as they were
+  relooked : Holds (Settled e look) b
+  relooked j l =
+      let d = g .book .settled j l in
+      record { held = record { known = older (at b j .arrival) (g .book .numbered j l .1) ∙ d .held .known; fits = d .held .fits; some = d .held .some }; tight = d .tight; shown = d .shown; behind = d .behind }
 
-  after : After e look send i free new b r
-  after = turn-after e R look send (λ x. routing-shared (routable o) (s .quotes) e (s .numbered) x .all) i free new b in′ empty known (λ j l. book .settled j l .held) (g .book .clear)
+  after : Entered e look send (s .arrivals) t b r
+  after = enter-entered e R look send (λ x. routing-shared (routable o) (s .quotes) e (s .numbered) x .all) i (s .arrivals) t b in′ empty known relooked (g .book .clear) (g .book .distinct) (g .book .numbered)
 
   shared : (n : ℕ) × Shared (suc (s .arrivals)) (suc (s .numbered)) n (cond (routable o) (length (s .quotes)) 0) (r .slips)
-  shared = let w = after .sent in
+  shared =
+      let w = after .sent in
       (w .0, subst (Shared (suc (s .arrivals)) (suc (s .numbered)) (w .0) (cond (routable o) (length (s .quotes)) 0)) (sym (w .2)) (routing-shared (routable o) (s .quotes) e (s .numbered) _))
 
   room : (length (r .slips) ≤ 15) × (length (r .slips) ≤ vacancies (s .sent))
@@ -189,31 +155,34 @@ module _ (R : ℕ → Bool) (h : List Event) (s : State) (g : Good R h s) (f : O
   others n k z = rw (ne-eqb (suc (s .arrivals)) n (λ y. z (omega (arith, y, g .arrivals)))) refl
 
   pub after-entered : Good R (did (call.Order f) m (entering R s i o .reports) (entering R s i o .slips) ∷ h) (entering R s i o .state)
-  unfolding enter
   after-entered = record {
     opened = g .opened;
     quotes = g .quotes;
     fifteen = g .fifteen;
     arrivals = ap suc (g .arrivals);
     numbers = ap (λ x. x + length (r .slips)) (g .numbers);
-    book = book-entered e look send (s .arrivals) i t b r after book;
+    book = record {
+      settled = after .settled;
+      clear = after .clear;
+      distinct = after .distinct;
+      numbered = after .numbered;
+      clean = after .clean (g .book .clean);
+      places = after .long ∙ g .book .places;
+    };
     seated = slips-entered (entry R h) look (out-in h) (r .slips) (s .numbered) (s .arrivals) (o .id) (s .sent) (λ n l. sym (older n l)) (sym (ap (λ x. x .id) known ∙ admit-id R e (here b) o)) (shared .1 .numbers) (shared .1 .each) (room .1) (g .seated);
     sizes = sizes;
-    prices = prices;
+    prices = after .shows (λ n. price-in n h) (g .unheard (suc (s .arrivals)) (omega arith)) (g .prices);
     unheard = λ n l. after .quiet n (price-in n h) (λ z. omega (arith, z, l)) ∙ g .unheard n (omega arith);
-    fills = ((tt, subst (λ w. All (Fair w look) (r .out)) (ap bests (g .quotes)) (after .fair)), g .fills);
+    fills = (subst (λ w. All (Fair w look) (r .out)) (ap bests (g .quotes)) (after .fair), g .fills);
     room = ((omega (arith, g .book .places, enter-room e R send i (suc (s .arrivals)) t b in′ empty), room .0), g .room);
-    counted = (
-      ap₂ (λ (x : ℕ × ℕ) l. x ∷ l) (ap₂ (λ (x y : ℕ). let p : ℕ × ℕ = (x, y) in p) (ap suc (g .arrivals)) announced-id) (after .nothing-new),
-      subst (λ k. Consecutive (suc k) (r .slips)) (g .numbers) (shared .1 .numbers),
-      g .counted,
-    );
+    counted = (after .announces ∙ ap₂ (λ (x y : ℕ). (x, y) ∷ []) (ap suc (g .arrivals)) announced-id, subst (λ k. Consecutive (suc k) (r .slips)) (g .numbers) (shared .1 .numbers), g .counted);
     answered = g .answered;
   }
     where
       h′ : List Event
-      h′ = did (call.Order f) m (New (suc (s .arrivals)) (t .id) ∷ r .out) (r .slips) ∷ h
+      h′ = did (call.Order f) m (r .out) (r .slips) ∷ h
 
+      -- the slips carry what left the book
       carried : (n : ℕ) → share n (suc (s .arrivals)) (total (r .slips)) ≡ slipped n (r .slips)
       carried n = sym (slipped-all n (suc (s .arrivals)) (r .slips) (all-weaker (λ x. (0 < x .size) × (x .arrival ≡ suc (s .arrivals))) (λ x. x .arrival ≡ suc (s .arrivals)) (λ x l. l .1) (r .slips) (shared .1 .each)))
 
@@ -226,12 +195,3 @@ module _ (R : ℕ → Bool) (h : List Event) (s : State) (g : Good R h s) (f : O
           (λ y.
           let z = eqb-false (suc (accepted h)) n y in
           omega (arith, g .sizes n, after .sizes n, after .nothing-away n, carried n, sumBy-append (slip-part n) (r .slips) (out-in h), others n (t .size) z, others n (total (r .slips)) z))
-
-      prices : (j : ℕ) → Live (at (r .book) j) → price-in (at (r .book) j .arrival) h′ ≡ prices-of (at (r .book) j)
-      prices j k = elim (cases-eq j i) [
-        | inl y ↦ subst (λ x. Live (at (r .book) x) → latest (at (r .book) x .arrival) (price-in (at (r .book) x .arrival) h) (r .out) ≡ prices-of (at (r .book) x)) (sym y)
-            (λ z. ap (λ x. latest x (price-in x h) (r .out)) (after .own z .0) ∙ ap (λ x. latest (suc (s .arrivals)) x (r .out)) (g .unheard (suc (s .arrivals)) (omega arith)) ∙ after .shows z) k
-        | inr n ↦
-            let w = stems-low b (r .book) j (after .others j n) k in
-            after .quiet (at (r .book) j .arrival) _ (λ z. omega (arith, z, w .1, g .book .numbered j (w .0) .1)) ∙ ap (λ x. price-in x h) (w .1) ∙ g .prices j (w .0) ∙ sym (ap prices-of (after .others j n .same k))
-      ]

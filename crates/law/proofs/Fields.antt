@@ -1,4 +1,5 @@
 -- An accepted order has the id of its fields. Assumes nothing.
+--     order-id      which is the one that it is announced with
 use mathlib.Core.Path.{_≡_, refl}
 use mathlib.Core.Bool.{Bool, _&&_}
 use Prim.Native.Nat.{ℕ}

@@ -2,6 +2,7 @@
 --     Table M k look b       b has the slips of M and no others, numbered below k, each with the id that `look` has for its order
 --     filing                 filing slips numbered from k on
 --     settling               freeing the place of one
+--     table-low              the slips are numbered below k
 use mathlib.Core.Path.{_≡_, refl, sym, ap, subst, _∙_}
 use mathlib.Core.List.{List, [], _∷_}
 use mathlib.Core.Logic.{_⊎_, inl, inr, _≢_}

@@ -1,4 +1,6 @@
 -- What the reports of a reply come to. Assumes nothing.
+--     Said a n m rs      rs report n filled away and m cancelled of the a-th order, and nothing else
+--     settled-said       so do those of a reply
 use mathlib.Core.Path.{_≡_, refl, ap, _∙_}
 use mathlib.Core.Bool.{Bool, true, false, cond}
 use mathlib.Core.List.{List, [], _∷_, _++_}
@@ -20,7 +22,7 @@ use Rattle.rules.specs.Sizes.{share, filled, away, cancelled, latest, news}
 use Rattle.rules.specs.States.{settled}
 use Rattle.rules.specs.Law.{Fair}
 
--- of the order a of the slip n contracts were filled away and m cancelled, and nothing else is said
+-- none of it is a fill here, a booking or an announcement
 pub record Said (a n m : ℕ) (rs : List Report) : Type 0 where
   pub away-is : (x : ℕ) → away x rs ≡ share x a n
   pub cancelled-is : (x : ℕ) → cancelled x rs ≡ share x a m

@@ -1,8 +1,9 @@
 -- The places of the slips that are out. Assumes nothing.
---     sent-set           a place after one is set
+--     sent-cases         a place after one is set
 --     out-within         a slip that is out stands within the table
 --     seat-is            what `seat` finds
 --     file-is            a slip is filed in a free place, if there is one
+--     fewer-vacant       and then one place fewer is free
 use mathlib.Core.Path.{_≡_, refl, ap, subst, _∙_}
 use mathlib.Core.Bool.{Bool, true, false, cond}
 use mathlib.Core.List.{List, [], _∷_}
