@@ -1,27 +1,25 @@
 -- What an accepted line holds. Assumes nothing.
 --     Ends ss fs make r     the fields fs are of the sorts ss, and what they say makes r
 --     accepted              an accepted line has a kind of one byte, and fields that end so
-use mathlib.Core.Path.{_≡_, refl, sym, ap, subst, _∙_}
+use mathlib.Core.Path.{_≡_, refl, sym, ap, _∙_}
 use mathlib.Core.Bool.{Bool, true, false, cond}
-use mathlib.Core.Logic.{_⊎_, inl, inr}
+use mathlib.Core.Logic.{inl, inr}
 use mathlib.Core.List.{List, [], _∷_}
-use Prim.Native.Nat.{ℕ, _+_, _<_}
+use Prim.Native.Nat.{ℕ, _+_}
 use native.Mathlib.Omega.{arith}
-use lib.Dec.{leb, eqb}
+use lib.Dec.{leb}
 use lib.ListN.{length, getD}
 use Rattle.std.specs.declared.option.Option.{Option}
 use Rattle.std.specs.declared.option.Option.the-variants.{Some, None}
 use Rattle.std.specs.declared.result.Result.{Result}
-use Rattle.std.specs.declared.result.Result.the-variants.{Ok, Err}
-use Rattle.std.proofs.shelf.Tests.{cases-eq, cases-bool}
+use Rattle.std.specs.declared.result.Result.the-variants.{Ok}
+use Rattle.std.proofs.shelf.Tests.{cases-eq}
 use Rattle.values.specs.declared.faults.LineFault.{LineFault}
-use Rattle.values.specs.declared.faults.LineFault.the-variants.{NoCall, FieldCount}
 use Rattle.lines.specs.Digits.{is-number, value-of}
 use Rattle.lines.specs.Words.{Word, number, letter, unreadable, is-letter, word-of, fields}
-use Rattle.lines.specs.Calls.{Sort, num, cap, Form, rest-of, and-then, read-all, read-by, by-form, read-line, letter-of}
-use Rattle.lines.specs.Laws.{by-first, named, width}
+use Rattle.lines.specs.Calls.{Sort, num, cap, Form, rest-of, and-then, read-all, by-form, read-line, letter-of}
+use Rattle.lines.specs.Laws.{by-first, named}
 use Rattle.lines.specs.Accepts.{Digits, Capital}
-use Rattle.lines.proofs.Cuts.{some-field}
 use Rattle.lines.proofs.Naming.{line-named}
 use Rattle.lines.proofs.Leftmost.{field-by, field-is}
 use Rattle.lines.proofs.Refusing.{by-count, by-miscount}

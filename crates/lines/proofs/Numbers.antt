@@ -1,7 +1,7 @@
 -- A number and its digits, both ways; a capital and its letter. Assumes nothing.
 use mathlib.Core.Path.{_≡_, refl, sym, ap, _∙_}
-use mathlib.Core.Bool.{Bool, true, false, not, cond, _&&_, _||_}
-use mathlib.Core.Logic.{_⊎_, inl, inr}
+use mathlib.Core.Bool.{true, false, not, cond, _&&_, _||_}
+use mathlib.Core.Logic.{inl, inr}
 use mathlib.Core.List.{List, [], _∷_, _++_, reverse}
 use Prim.Native.Nat.{ℕ, zero, suc, _+_, _-_, _*_, _^_, _≤_, _<_}
 use native.Mathlib.Omega.{arith}
@@ -13,13 +13,13 @@ use Rattle.std.specs.Written.{decimal}
 use Rattle.std.specs.Text.{In}
 use Rattle.std.proofs.shelf.Lists.{reverse-append, length-reverse}
 use Rattle.std.proofs.shelf.Ascii.{encode-ascii}
-use Rattle.std.proofs.shelf.Numerals.{Numerals, TellsDigits, Weighs, numerals-by-weight, value-short}
+use Rattle.std.proofs.shelf.Numerals.{Numerals, numerals-by-weight, value-short}
 use Rattle.std.proofs.shelf.Decimals.{digits-decimal, value-decimal, decimal-value, decimal-digit, decimal-some, first-decimal, length-decimal-le}
 use Rattle.std.proofs.shelf.Tests.{cases-eq, eq-eqb, ne-eqb, eqb-true, le-leb, lt-leb, leb-true, and-parts, and-from, and-left, and-right, or-left, or-right, or-cases, not-true, not-from-false, eqb-false, cond-true, cond-false}
 use Rattle.values.specs.declared.terms.Letter.{Letter}
 use Rattle.values.specs.declared.terms.Letter.the-variants as letters
 use Rattle.values.specs.Texts.{letter-text}
-use Rattle.lines.specs.Digits.{from-last, value-of, is-digit, all-digits, is-number}
+use Rattle.lines.specs.Digits.{from-last, value-of, all-digits, is-number}
 use Rattle.lines.specs.Words.{number, letter, unreadable, is-letter, word-of}
 use Rattle.lines.specs.Calls.{letter-of}
 use Rattle.lines.proofs.Tests.{digits-each}

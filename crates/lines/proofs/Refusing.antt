@@ -1,7 +1,6 @@
 -- A line is refused for the topmost row that fits it, and only for that. Assumes nothing.
 use mathlib.Core.Path.{_≡_, refl, sym, ap, _∙_}
-use mathlib.Core.Bool.{Bool, true, false, cond}
-use mathlib.Core.Logic.{_⊎_, inl, inr}
+use mathlib.Core.Logic.{inl, inr}
 use mathlib.Core.List.{List, [], _∷_}
 use Prim.Native.Nat.{ℕ, _+_, _<_}
 use native.Mathlib.Omega.{arith}
@@ -9,15 +8,15 @@ use lib.Dec.{eqb}
 use lib.ListN.{length}
 use Rattle.std.specs.declared.option.Option.{Option}
 use Rattle.std.specs.declared.option.Option.the-variants.{Some, None}
-use Rattle.std.specs.declared.result.Result.the-variants.{Ok, Err}
+use Rattle.std.specs.declared.result.Result.the-variants.{Err}
 use Rattle.std.proofs.shelf.Tests.{eq-eqb, ne-eqb, cases-eq, cond-true, cond-false}
 use Rattle.values.specs.declared.faults.Layer.the-variants.{Line}
 use Rattle.values.specs.declared.faults.LineFault.{LineFault}
 use Rattle.values.specs.declared.faults.LineFault.the-variants.{NoCall, FieldCount, Unreadable}
 use Rattle.values.specs.Codes.{code, row, of-line}
 use Rattle.lines.specs.Words.{fields}
-use Rattle.lines.specs.Calls.{Form, rest-of, read-all, read-by, by-form, read-line}
-use Rattle.lines.specs.Laws.{named, width, FirstUnfit, Refused, no-call, miscounted, misread, Refusals}
+use Rattle.lines.specs.Calls.{Form, rest-of, read-all, read-by, by-form}
+use Rattle.lines.specs.Laws.{named, width, Refused, no-call, miscounted, misread, Refusals}
 use Rattle.lines.proofs.Cuts.{some-field}
 use Rattle.lines.proofs.Naming.{line-named}
 use Rattle.lines.proofs.Leftmost.{leftmost, refused-at}

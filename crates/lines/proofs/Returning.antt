@@ -1,11 +1,10 @@
 -- What is written is read back. Assumes nothing.
 use mathlib.Core.Path.{_≡_, refl, sym, ap, _∙_}
-use mathlib.Core.Bool.{Bool, true, false, cond}
 use mathlib.Core.List.{List, [], _∷_, _++_}
-use Prim.Native.Nat.{ℕ, zero, suc, _+_, _≤_, _<_}
+use Prim.Native.Nat.{ℕ, suc, _+_, _≤_, _<_}
 use native.Mathlib.Omega.{arith}
 use lib.Dec.{leb}
-use lib.ListN.{length, getD, length-append}
+use lib.ListN.{length, length-append}
 use Rattle.std.specs.Written.{decimal}
 use Rattle.std.specs.shelf.Lists.{All}
 use Rattle.std.specs.declared.option.Option.{Option}
@@ -15,16 +14,14 @@ use Rattle.std.proofs.shelf.Elements.{all-from-getD}
 use Rattle.std.proofs.shelf.Decimals.{length-decimal-le}
 use Rattle.std.proofs.shelf.Tests.{le-leb, cond-true}
 use Rattle.values.specs.declared.terms.Letter.{Letter}
-use Rattle.values.specs.declared.calls.Header.{Header}
-use Rattle.values.specs.declared.calls.Call.{Call}
 use Rattle.values.specs.declared.calls.Call.the-variants as call
-use Rattle.values.specs.Texts.{number, capital, letter-text, letters-text, header-text, call-text}
+use Rattle.values.specs.Texts.{number, capital, letter-text}
 use Rattle.lines.specs.declared.calls.CallKind.the-variants.{Open, Away, Order, Cancel, Reply}
-use Rattle.lines.specs.Words.{grown, word-of, fields}
-use Rattle.lines.specs.Calls.{Sort, num, cap, Form, rest-of, number-by, letter-by, and-then, letter-of, form-of, the-header, read-all, by-form, read-line, header-form, call-form}
+use Rattle.lines.specs.Words.{grown, fields}
+use Rattle.lines.specs.Calls.{Sort, num, cap, Form, rest-of, number-by, letter-by, and-then, form-of, the-header, read-all, by-form, read-line, header-form, call-form}
 use Rattle.lines.specs.Laws.{by-first, named}
 use Rattle.lines.specs.Rounds.{Plain, HeadersReturn, CallsReturn}
-use Rattle.lines.proofs.Cuts.{tab, other}
+use Rattle.lines.proofs.Cuts.{other}
 use Rattle.lines.proofs.Naming.{line-named}
 use Rattle.lines.proofs.Refusing.{by-count}
 use Rattle.lines.proofs.Numbers.{decimal-digits, decimal-word, capital-word, letter-back}

@@ -1,16 +1,14 @@
 -- What was read is written as it stood. Assumes nothing.
 use mathlib.Core.Path.{_≡_, refl, sym, ap, _∙_}
-use mathlib.Core.Logic.{_⊎_, inl, inr}
+use mathlib.Core.Logic.{inl, inr}
 use mathlib.Core.List.{List, [], _∷_, _++_}
 use Prim.Native.Nat.{ℕ, _≤_, _<_}
 use native.Mathlib.Omega.{arith}
 use lib.ListN.{length}
 use Rattle.std.specs.Written.{decimal}
-use Rattle.std.specs.declared.result.Result.the-variants.{Ok}
 use Rattle.std.proofs.shelf.Tests.{cases-eq}
-use Rattle.values.specs.declared.calls.Header.{Header}
 use Rattle.values.specs.declared.calls.Call.{Call}
-use Rattle.values.specs.Texts.{number, letter-text, letters-text, header-text, call-text}
+use Rattle.values.specs.Texts.{number, letters-text, header-text, call-text}
 use Rattle.lines.specs.declared.calls.CallKind.{CallKind}
 use Rattle.lines.specs.declared.calls.CallKind.the-variants.{Open, Away, Order, Cancel, Reply}
 use Rattle.lines.specs.Words.{grown, word-of, fields}
@@ -18,7 +16,7 @@ use Rattle.lines.specs.Calls.{Sort, num, cap, letter-of, sorts-of, call-of, he
 use Rattle.lines.specs.Rounds.{HeadersRewrite, CallsRewrite}
 use Rattle.lines.proofs.Cuts.{tab, other, some-field}
 use Rattle.lines.proofs.Accepting.{word-for, Ends, numbers, made-is}
-use Rattle.lines.proofs.Saying.{letter-for, Kinded, kinded, Headed, headed}
+use Rattle.lines.proofs.Saying.{letter-for, kinded, headed}
 use Rattle.lines.proofs.Numbers.{decimal-back, capital-back, letter-back}
 
 -- fields, each after a tab

@@ -1,6 +1,6 @@
 -- An accepted line, kind by kind. Assumes nothing.
 use mathlib.Core.Path.{_≡_, refl, sym, ap, subst, _∙_}
-use mathlib.Core.Bool.{Bool, true, false, cond}
+use mathlib.Core.Bool.{cond}
 use mathlib.Core.Logic.{_⊎_, inl, inr}
 use mathlib.Core.List.{List, [], _∷_}
 use Prim.Native.Nat.{ℕ}
@@ -17,7 +17,7 @@ use Rattle.lines.specs.declared.calls.CallKind.the-variants.{Open, Away, Order
 use Rattle.lines.specs.Words.{fields}
 use Rattle.lines.specs.Calls.{Form, sorts-of, call-of, header-sorts, header-of, kind-of, form-of, form-for, the-header, call-form, header-form, read-call-of, read-header-of}
 use Rattle.lines.specs.Accepts.{SaysHeader, SaysCall, HeadersSay, CallsSay}
-use Rattle.lines.proofs.Accepting.{Ends, listed, listed-is, numbers, made-is, digits-say, capital-says, Accepted, accepted}
+use Rattle.lines.proofs.Accepting.{Ends, listed-is, made-is, digits-say, capital-says, accepted}
 
 -- the letter that names a kind
 abbrev pub letter-for : CallKind → ℕ
@@ -27,10 +27,7 @@ letter-for Order = 79
 letter-for Cancel = 88
 letter-for Reply = 82
 
--- a test that is passed, and the letter that passed it
-abbrev Known : ℕ → CallKind → Type 0
-Known c k = c ≡ letter-for k
-
+-- a test of the letter, passed or not
 step : (c n : ℕ) (j k : CallKind) (o : Option CallKind) → letter-for j ≡ n → cond (eqb c n) (Some j) o ≡ Some k → (c ≡ letter-for k) ⊎ (o ≡ Some k)
 step c n j k o is e =
     elim (cases-eq c n) [

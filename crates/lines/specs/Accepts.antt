@@ -8,7 +8,7 @@ use mathlib.Core.Bool.{true}
 use mathlib.Core.List.{List, [], _∷_}
 use Prim.Native.Nat.{ℕ}
 use lib.ListN.{getD}
-use Rattle.std.specs.declared.result.Result.the-variants.{Ok, Err}
+use Rattle.std.specs.declared.result.Result.the-variants.{Ok}
 use Rattle.values.specs.declared.terms.Letter.{Letter}
 use Rattle.values.specs.declared.calls.Header.{Header}
 use Rattle.values.specs.declared.calls.OrderFields.{OrderFields}

@@ -5,7 +5,7 @@
 --     read-line forms bs    a line read by the form that its first field names
 --     read-header-of bs     the first line of a day
 --     read-call-of bs       every later line
-use mathlib.Core.Bool.{Bool, true, false, cond}
+use mathlib.Core.Bool.{cond}
 use mathlib.Core.List.{List, [], _∷_}
 use Prim.Native.Nat.{ℕ, _+_}
 use lib.Dec.{leb, eqb}
@@ -14,11 +14,9 @@ use Rattle.std.specs.declared.option.Option.{Option}
 use Rattle.std.specs.declared.option.Option.the-variants.{Some, None}
 use Rattle.std.specs.declared.result.Result.{Result}
 use Rattle.std.specs.declared.result.Result.the-variants.{Ok, Err}
-use Rattle.market.specs.declared.board.Quote.{Quote}
 use Rattle.values.specs.declared.terms.Letter.{Letter}
 use Rattle.values.specs.declared.terms.Letter.the-variants as letter
 use Rattle.values.specs.declared.calls.Header.{Header}
-use Rattle.values.specs.declared.calls.OrderFields.{OrderFields}
 use Rattle.values.specs.declared.calls.Call.{Call}
 use Rattle.values.specs.declared.calls.Call.the-variants as call
 use Rattle.values.specs.declared.faults.LineFault.{LineFault}

@@ -8,17 +8,17 @@
 use mathlib.Core.Path.{_≡_}
 use mathlib.Core.Bool.{Bool, true, false, cond}
 use mathlib.Core.List.{List, [], _∷_}
-use Prim.Native.Nat.{ℕ, _+_, _<_, _≤_}
+use Prim.Native.Nat.{ℕ, _+_, _<_}
 use lib.Dec.{leb}
 use lib.ListN.{length, getD}
 use Rattle.std.specs.declared.option.Option.{Option}
 use Rattle.std.specs.declared.option.Option.the-variants.{Some, None}
-use Rattle.std.specs.declared.result.Result.the-variants.{Ok, Err}
+use Rattle.std.specs.declared.result.Result.the-variants.{Err}
 use Rattle.values.specs.declared.faults.Layer.the-variants.{Line}
 use Rattle.values.specs.declared.faults.LineFault.{LineFault}
 use Rattle.values.specs.Codes.{code, row, of-line}
 use Rattle.lines.specs.Words.{Word, number, letter, unreadable, word-of, fields}
-use Rattle.lines.specs.Calls.{Sort, num, cap, Form, rest-of, read-line, header-form, call-form}
+use Rattle.lines.specs.Calls.{Sort, num, cap, Form, rest-of, read-line}
 
 abbrev pub fit : Sort → Word → Bool
 fit num (number n) = true

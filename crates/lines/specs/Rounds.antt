@@ -4,9 +4,9 @@
 --     WritableHeader h    every number of h is of eight digits, and every letter is plain
 --     WritableCall c      the same of a call
 use mathlib.Core.Path.{_≡_}
-use mathlib.Core.List.{List, [], _∷_}
+use mathlib.Core.List.{List}
 use Prim.Native.Nat.{ℕ, _≤_}
-use Rattle.std.specs.declared.result.Result.the-variants.{Ok, Err}
+use Rattle.std.specs.declared.result.Result.the-variants.{Ok}
 use Rattle.values.specs.declared.terms.Letter.{Letter}
 use Rattle.values.specs.declared.calls.Header.{Header}
 use Rattle.values.specs.declared.calls.Call.{Call}

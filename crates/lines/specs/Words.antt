@@ -1,7 +1,7 @@
 -- A line's fields, and what each says. Assumes nothing.
 --     fields bs      the parts of a line between its tabs (byte 9)
 --     word-of f      what a field says: a number, a letter, or nothing that can be read
-use mathlib.Core.Bool.{Bool, true, false, _&&_, cond}
+use mathlib.Core.Bool.{Bool, _&&_, cond}
 use mathlib.Core.List.{List, [], _∷_}
 use Prim.Native.Nat.{ℕ}
 use lib.Dec.{leb, eqb}

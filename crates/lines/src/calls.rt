@@ -1,6 +1,6 @@
 // The header or the call that a line writes.
 ghost use mathlib.Core.Path.{_≡_};
-ghost use Prim.Native.Nat.{ℕ, _+_, _<_};
+ghost use Prim.Native.Nat.{ℕ, _+_, _<_, _≤_};
 ghost use lib.ListN.{length};
 ghost use Rattle.lines.specs.Handing.{left-of, Short};
 ghost use Rattle.lines.specs.Calls.{letter-of, number-in, letter-in, rest-of, sorts-of, header-sorts, call-of, header-of, read-all, read-by, by-form, form-of, the-header, kind-of, call-form, header-form, read-header-of, read-call-of};
@@ -54,6 +54,7 @@ fn number_in(fields: &mut Fields) -> Result<u32, LineFault>
     ensures value { λ r. ⌜ r ≡ number-in (left-of (now (fields .entry) .rest)) (now (fields .entry) .place) ⌝ }
     ensures left { λ r. ⌜ left-of (now (fields .exit) .rest) ≡ rest-of (left-of (now (fields .entry) .rest)) ⌝ }
     ensures place { λ r. ⌜ made r (λ _. now (fields .exit) .place ≡ now (fields .entry) .place + 1) ⌝ }
+    ensures near { λ r. ⌜ now (fields .exit) .place ≤ now (fields .entry) .place + 1 ⌝ }
 {
     let after = fields.place + 1;
     match fields.next() {
@@ -68,6 +69,7 @@ fn letter_in(fields: &mut Fields) -> Result<char, LineFault>
     ensures value { λ r. ⌜ r ≡ letter-in (left-of (now (fields .entry) .rest)) (now (fields .entry) .place) ⌝ }
     ensures left { λ r. ⌜ left-of (now (fields .exit) .rest) ≡ rest-of (left-of (now (fields .entry) .rest)) ⌝ }
     ensures place { λ r. ⌜ made r (λ _. now (fields .exit) .place ≡ now (fields .entry) .place + 1) ⌝ }
+    ensures near { λ r. ⌜ now (fields .exit) .place ≤ now (fields .entry) .place + 1 ⌝ }
 {
     let after = fields.place + 1;
     match fields.next() {

@@ -1,8 +1,6 @@
 use native.Mathlib.Omega.{arith}
 use borrow.Author.Needs.{needs}
-use borrow.Author.Tests.{ltb-true, ltb-false}
-use Prim.Native.Nat.{_<_}
-use lib.ListN.{length}
+use borrow.Author.Tests.{ltb-false}
 use lib.Seq.{length-take-le}
 use mathlib.Core.Path.{sym}
 use Rattle.lines.proofs.Values.{value-last, front-digits, value-none, value-front}

@@ -1,7 +1,6 @@
 use mathlib.Core.Path.{sym}
 use native.Mathlib.Omega.{arith}
 use borrow.Author.Needs.{needs}
-use Rattle.std.proofs.shelf.Lists.{length-take-le, length-drop}
 use Rattle.lines.proofs.Cuts.{count-none, count-tab, count-other}
 use Rattle.lines.proofs.fields.+field_count.Needs as need
 
