@@ -3,22 +3,24 @@ use mathlib.Core.Path.{_≡_, refl, ap}
 use mathlib.Core.Bool.{false}
 use mathlib.Core.List.{List, [], _∷_}
 use mathlib.Core.Logic.{inl, inr}
-use Prim.Native.Nat.{ℕ}
+use Prim.Native.Nat.{ℕ, _<_, _≤_}
 use native.Mathlib.Omega.{arith}
 use Rattle.market.specs.Rungs.{cents}
 use Rattle.values.specs.declared.terms.Side.the-variants.{Buy, Sell}
 use Rattle.values.specs.declared.terms.Kind.the-variants.{Limit}
 use Rattle.values.specs.declared.reports.Report.the-variants.{New, Fill, Booked, Cancelled}
 use Rattle.values.specs.declared.reports.Cause.the-variants.{Protection}
+use Rattle.values.specs.declared.faults.SeriesFault.the-variants.{NoRoomForReports}
+use Rattle.values.specs.Codes.{of-series}
 use Rattle.rules.specs.declared.Order.{Order}
 use Rattle.rules.specs.States.{State}
 use Rattle.rules.specs.Steps.{Step, Run}
-use Rattle.rules.specs.Steps.Step.{told as tells, entered as enters}
+use Rattle.rules.specs.Steps.Step.{told as tells, entered as enters, left as leaves}
 use Rattle.rules.specs.Steps.Run.{next}
 use Rattle.edges.specs.Calls.{quoting, buy, sell, entered, Comes}
 use Rattle.edges.proofs.Series.{open-with, terms, checked, rests}
 use Rattle.edges.proofs.Steps.{rulebook, market-run}
-use Rattle.bites.specs.Wrong.{displayed-at, three-rest, uncrossed-writes, One-turn-writes-nothing, moved-away, announced-as, Locks, Only-the-oldest, Booked-past-its-protection, Number-skipped}
+use Rattle.bites.specs.Wrong.{displayed-at, three-rest, uncrossed-writes, One-turn-writes-nothing, moved-away, announced-as, Locks, Rests-unbooked, Rest-misstated, Written-past-the-room, Only-the-oldest, Booked-past-its-protection, Number-skipped}
 use Rattle.bites.proofs.Runs.{sell-run, above-bound}
 
 displayed-run : Comes cents false (displayed-at 111)
@@ -28,6 +30,18 @@ displayed-run = (_, next (market-run false 108 112 refl refl) (enters 0 (checked
 pub locks : Locks
 unfolding rulebook
 locks = (displayed-run, λ l. elim (l .unlocked 1 (omega arith)) [ inl e ↦ omega arith | inr k ↦ omega arith ])
+
+pub rests-unbooked : Rests-unbooked
+unfolding rulebook
+rests-unbooked = (displayed-run, λ l. let k : 0 < 0 = l .bounded 1 (omega arith) .2 in omega arith)
+
+pub rest-misstated : Rest-misstated
+unfolding rulebook
+rest-misstated = (displayed-run, λ l. let k : 9 ≡ 10 = l .stated .0 .0 in omega arith)
+
+pub written-past-the-room : Written-past-the-room
+unfolding rulebook
+written-past-the-room = ((_, next (market-run false 108 112 refl refl) (leaves (of-series NoRoomForReports) refl)), λ l. let k : 2 ≤ 1 = l .room .0 .2 in omega arith)
 
 -- ---- three rest
 abbrev buy-1 : Order

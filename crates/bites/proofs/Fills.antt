@@ -1,12 +1,13 @@
 -- Fills that the law forbids. Assumes nothing.
-use mathlib.Core.Path.{refl}
+use mathlib.Core.Path.{_≡_, refl, subst}
 use mathlib.Core.Bool.{false}
 use mathlib.Core.List.{[], _∷_}
-use Prim.Native.Nat.{_≤_}
+use Prim.Native.Nat.{_<_, _≤_}
 use native.Mathlib.Omega.{arith}
 use lib.ListN.{replicate}
 use Rattle.market.specs.Quotes.{absent}
 use Rattle.market.specs.Rungs.{cents}
+use Rattle.values.specs.declared.terms.Side.{Side}
 use Rattle.values.specs.declared.terms.Side.the-variants.{Buy, Sell}
 use Rattle.values.specs.declared.terms.Kind.the-variants.{Limit}
 use Rattle.values.specs.declared.reports.Report.the-variants.{New, Booked}
@@ -19,7 +20,7 @@ use Rattle.rules.specs.Steps.Run.{next}
 use Rattle.edges.specs.Calls.{quoting, buy, sell, told, entered, Comes}
 use Rattle.edges.proofs.Series.{open-with, terms, checked, rests}
 use Rattle.edges.proofs.Steps.{rulebook, market-run}
-use Rattle.bites.specs.Wrong.{sold-at, uncrossed-at, offered-109, Through-the-offer, Invented-size, Under-the-bid, Past-the-makers-protection, Quote-forgotten}
+use Rattle.bites.specs.Wrong.{two-buys, sold-at, uncrossed-at, offered-109, Through-the-offer, Invented-size, Away-unasked, Of-nothing, Two-buys-trade, Under-the-bid, Past-the-makers-protection, Quote-forgotten}
 use Rattle.bites.proofs.Runs.{at-sell, sell-run, hit-run, above-bound}
 
 pub through-the-offer : Through-the-offer
@@ -29,6 +30,14 @@ through-the-offer = (hit-run, λ l. above-bound 112 113 (omega arith) (omega ari
 pub invented-size : Invented-size
 unfolding rulebook
 invented-size = (hit-run, λ l. let k : 11 ≤ 10 = l .within 1 in omega arith)
+
+pub away-unasked : Away-unasked
+unfolding rulebook
+away-unasked = (hit-run, λ l. let k : 10 ≡ 0 = l .answered .0 2 in omega arith)
+
+pub of-nothing : Of-nothing
+unfolding rulebook
+of-nothing = (hit-run, λ l. let k : 0 < 0 = l .fills .0 .1 .1 .0 .5 in omega arith)
 
 abbrev at-buy : State
 at-buy = open-with false (quoting 108 112) (rests 1 (terms Buy 71 110 0 10) 110 110 10 ∷ []) 1
@@ -44,6 +53,19 @@ sold-run = (_, next (next (market-run false 108 112 refl refl) buy-step) (enters
 pub under-the-bid : Under-the-bid
 unfolding rulebook
 under-the-bid = (sold-run, λ l. let k : 108 ≤ 107 = l .fills .0 .1 .0 .1 in omega arith)
+
+-- ---- two buys
+two-buys-run : Comes cents false (two-buys (Booked 2 112 111 10 ∷ []))
+unfolding rulebook
+two-buys-run = (_, next (next (market-run false 108 112 refl refl) buy-step) (enters 1 (checked Limit Buy 72 115 10 0) refl refl (omega arith) refl))
+
+abbrev Buys : Side → Type 0
+Buys Buy = Unit {0}
+Buys Sell = ⊥
+
+pub two-buys-trade : Two-buys-trade
+unfolding rulebook
+two-buys-trade = (two-buys-run, λ l. let e : Buy ≡ Sell = l .fills .0 .1 .0 .4 in subst Buys e tt)
 
 -- ---- the protected sell
 abbrev buy-1 : Order

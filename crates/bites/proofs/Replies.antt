@@ -1,5 +1,5 @@
 -- Replies that the law forbids. Assumes nothing.
-use mathlib.Core.Path.{_≡_, refl, sym, subst}
+use mathlib.Core.Path.{_≡_, refl, sym, ap, subst}
 use mathlib.Core.Bool.{true, false}
 use mathlib.Core.List.{List, [], _∷_}
 use Prim.Native.Nat.{zero, suc, _+_, _<_}
@@ -8,7 +8,7 @@ use lib.ListN.{replicate}
 use Rattle.std.specs.shelf.Lists.{Has}
 use Rattle.market.specs.Quotes.{absent}
 use Rattle.market.specs.Rungs.{cents}
-use Rattle.values.specs.declared.terms.Side.the-variants.{Buy}
+use Rattle.values.specs.declared.terms.Side.the-variants.{Buy, Sell}
 use Rattle.values.specs.declared.terms.Kind.the-variants.{Limit}
 use Rattle.values.specs.declared.terms.Origin.the-variants.{Customer}
 use Rattle.values.specs.declared.terms.Mark.the-variants.{Route}
@@ -28,10 +28,10 @@ use Rattle.rules.specs.Steps.Event.{did, refused}
 use Rattle.rules.specs.Steps.Step.{entered as enters, replied as replies, left as leaves}
 use Rattle.rules.specs.Steps.Run.{next}
 use Rattle.rules.specs.Day.{room}
-use Rattle.edges.specs.Calls.{quoting, Comes}
-use Rattle.edges.proofs.Series.{filled-up, open-with, terms, rests}
+use Rattle.edges.specs.Calls.{quoting, sell, entered, Comes}
+use Rattle.edges.proofs.Series.{filled-up, open-with, terms, checked, rests}
 use Rattle.edges.proofs.Steps.{rulebook, market-run}
-use Rattle.bites.specs.Wrong.{routed-buy, slip-1, slip-out, replied, three-of-ten, replied-twice, Settled-twice, Settled-in-part}
+use Rattle.bites.specs.Wrong.{routed-buy, slip-1, slip-out, replied, three-of-ten, replied-twice, replied-beside, Settled-twice, Settled-in-part, Cancels-another}
 
 abbrev routed-checked : CheckedOrder
 routed-checked = record { id = 71; firm = 4; side = Buy; origin = Customer; kind = Limit; mark = Route; limit = 112; size = 30; protection = 0 }
@@ -77,5 +77,36 @@ settled-in-part = (
   λ l.
       let e : l .answered .0 .slip ≡ slip-1 = sym (only-one slip-1 (l .answered .0 .slip) (l .answered .0 .was-out)) in
       let w : 3 ≡ 10 = subst (λ x. away (x .arrival) (FilledAway 1 1 3 ∷ []) + cancelled (x .arrival) (FilledAway 1 1 3 ∷ []) ≡ x .size) e (l .answered .0 .whole) in
+      omega arith,
+)
+
+-- ---- a sell rests besides
+abbrev beside : List Sent → State
+beside ss = record {
+  opened = true;
+  wide = false;
+  quotes = quoting 108 112 ∷ replicate 14 absent;
+  orders = filled-up (rests 1 (terms Buy 71 112 0 30) 112 111 20 ∷ rests 2 (terms Sell 72 115 0 10) 115 115 10 ∷ []);
+  sent = ss;
+  arrivals = 2;
+  numbered = 1;
+}
+
+sell-beside : Step cents sent-out (entered (sell 72 115 10 0) (New 2 72 ∷ Booked 2 115 115 10 ∷ [])) (beside (record { slip = slip-1; id = 71 } ∷ replicate 63 no-sent))
+unfolding rulebook
+sell-beside = enters 1 (checked Limit Sell 72 115 10 0) refl refl (omega arith) refl
+
+beside-run : Comes cents false (replied-beside [])
+unfolding rulebook
+beside-run = (beside (replicate 64 no-sent), next (next (next (market-run false 108 112 refl refl) send) sell-beside) (replies 0 refl refl))
+
+pub cancels-another : Cancels-another
+unfolding rulebook
+cancels-another = (
+  beside-run,
+  λ l.
+      let x = l .answered .0 .slip in
+      let e : 1 ≡ x .arrival = ap (λ y. y .arrival) (only-one slip-1 x (l .answered .0 .was-out)) in
+      let w : 4 ≡ 0 = l .answered .0 .no-other 2 (λ z. omega (arith, z, e)) .1 in
       omega arith,
 )

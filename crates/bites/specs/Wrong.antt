@@ -9,12 +9,13 @@ use Rattle.market.specs.Rungs.{cents}
 use Rattle.values.specs.declared.terms.Letter.the-variants as letter
 use Rattle.values.specs.declared.calls.OrderFields.{OrderFields}
 use Rattle.values.specs.declared.calls.Call.the-variants as call
-use Rattle.values.specs.declared.faults.SeriesFault.the-variants.{SlipNotOut}
+use Rattle.values.specs.declared.faults.SeriesFault.the-variants.{NoRoomForReports, SlipNotOut}
 use Rattle.values.specs.declared.reports.Report.{Report}
 use Rattle.values.specs.declared.reports.Report.the-variants.{New, Fill, Booked, Cancelled, FilledAway}
 use Rattle.values.specs.declared.reports.Cause.the-variants.{Protection, Unfilled}
 use Rattle.values.specs.declared.reports.Slip.{Slip}
 use Rattle.values.specs.Codes.{of-series}
+use Rattle.rules.specs.declared.Room.{Room}
 use Rattle.rules.specs.Quoting.{clamp, turns}
 use Rattle.rules.specs.States.{State}
 use Rattle.rules.specs.Steps.{Event, Run}
@@ -42,6 +43,29 @@ Through-the-offer = Caught (hit-at 110 10) (hit-at 113 10)
 abbrev pub Invented-size : Type 0
 Invented-size = Caught (hit-at 110 10) (hit-at 110 11)
 
+-- the buy is told filled away, with no slip out; the sell still rests
+abbrev pub Away-unasked : Type 0
+Away-unasked = Caught (hit-at 110 10) (entered (buy 72 115 10 0) (New 2 72 ∷ FilledAway 2 1 10 ∷ []) ∷ sell-rests)
+
+-- the ten contracts, and then rs
+abbrev pub hit-and : List Report → List Event
+hit-and rs = entered (buy 72 115 10 0) (New 2 72 ∷ Fill 2 1 110 10 ∷ rs) ∷ sell-rests
+
+-- a second fill, of nothing
+abbrev pub Of-nothing : Type 0
+Of-nothing = Caught (hit-and []) (hit-and (Fill 2 1 110 0 ∷ []))
+
+-- ---- away 108 and 112: a buy at 110 rests, and a second buy at 115 comes and writes rs
+abbrev pub two-buys : List Report → List Event
+two-buys rs =
+    entered (buy 72 115 10 0) (New 2 72 ∷ rs)
+    ∷ entered (buy 71 110 10 0) (New 1 71 ∷ Booked 1 110 110 10 ∷ [])
+    ∷ market 108 112
+
+-- it takes the first buy, at a price that is within everything that bounds the two
+abbrev pub Two-buys-trade : Type 0
+Two-buys-trade = Caught (two-buys (Booked 2 112 111 10 ∷ [])) (two-buys (Fill 2 1 110 10 ∷ []))
+
 -- ---- away 108 and 112; a buy at 110 rests, and a sell at 100 takes it
 abbrev pub sold-at : ℕ → List Event
 sold-at p =
@@ -68,13 +92,37 @@ uncrossed-at p = told 1 100 110 (Fill 1 2 p 5 ∷ []) ∷ protected-rests
 abbrev pub Past-the-makers-protection : Type 0
 Past-the-makers-protection = Caught (uncrossed-at 106) (uncrossed-at 104)
 
--- ---- away 108 and 112; a buy at 112 rests at the away offer
+-- ---- away 108 and 112; a buy at 112 rests at the away offer, and writes rs
+abbrev pub rests-with : List Report → List Event
+rests-with rs = entered (buy 71 112 10 0) (New 1 71 ∷ rs) ∷ market 108 112
+
 abbrev pub displayed-at : ℕ → List Event
-displayed-at d = entered (buy 71 112 10 0) (New 1 71 ∷ Booked 1 112 d 10 ∷ []) ∷ market 108 112
+displayed-at d = rests-with (Booked 1 112 d 10 ∷ [])
 
 -- displayed at the away offer itself
 abbrev pub Locks : Type 0
 Locks = Caught (displayed-at 111) (displayed-at 112)
+
+-- it rests, and nobody is told where
+abbrev pub Rests-unbooked : Type 0
+Rests-unbooked = Caught (displayed-at 111) (rests-with [])
+
+-- nine of its ten are told to rest
+abbrev pub Rest-misstated : Type 0
+Rest-misstated = Caught (displayed-at 111) (rests-with (Booked 1 112 111 9 ∷ []))
+
+-- ---- away 108 and 112: the same buy comes to e, where the list of reports has room for one record
+abbrev pub one-report : Room
+one-report = record { reports = 1; slips = 15 }
+
+abbrev pub with-little-room : Event → List Event
+with-little-room e = e ∷ market 108 112
+
+-- it is carried out, and writes two
+abbrev pub Written-past-the-room : Type 0
+Written-past-the-room =
+    Caught (with-little-room (refused (call.Order (buy 71 112 10 0)) one-report (of-series NoRoomForReports)))
+    (with-little-room (did (call.Order (buy 71 112 10 0)) one-report (New 1 71 ∷ Booked 1 112 111 10 ∷ []) []))
 
 -- ---- away bid 106 over away offer 104: a buy at 90 is the oldest; a buy at 110 and a sell at 100 rest past one another
 abbrev pub three-rest : List Event
@@ -126,6 +174,17 @@ Settled-twice = Caught (replied-twice (refused (call.Reply 1 3) room (of-series 
 -- seven of the ten are not accounted for
 abbrev pub Settled-in-part : Type 0
 Settled-in-part = Caught (replied three-of-ten ∷ slip-out) (replied (FilledAway 1 1 3 ∷ []) ∷ slip-out)
+
+-- ---- the slip is out, and a sell at 115 rests besides; the reply writes what it should, and then rs
+abbrev pub replied-beside : List Report → List Event
+replied-beside rs =
+    replied (FilledAway 1 1 3 ∷ Cancelled 1 7 Unfilled ∷ rs)
+    ∷ entered (sell 72 115 10 0) (New 2 72 ∷ Booked 2 115 115 10 ∷ [])
+    ∷ slip-out
+
+-- four contracts of the sell, which is on no slip
+abbrev pub Cancels-another : Type 0
+Cancels-another = Caught (replied-beside []) (replied-beside (Cancelled 2 4 Unfilled ∷ []))
 
 -- ---- the sell at 110 rests; then exchange 2 offers at 109, and a buy at 115 comes and writes rs
 abbrev pub offered-109 : List Report → List Event

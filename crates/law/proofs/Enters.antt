@@ -36,10 +36,11 @@ use Rattle.rules.specs.Steps.{Event, order-in}
 use Rattle.rules.specs.Steps.Event.{did, refused}
 use Rattle.rules.specs.Histories.{best, accepted, out-in, gone, price-in, here-in, entry}
 use Rattle.rules.specs.Law.{Fair, Consecutive}
-use Rattle.rules.proofs.Refusals.{order-rows, order-room}
+use Rattle.rules.proofs.Refusals.{Room-for, order-rows, order-room}
 use Rattle.trading_laws.specs.Books.{Holds, Settled}
 use Rattle.trading_laws.specs.Turns.{Entered}
 use Rattle.trading_laws.proofs.Entry.{enter-entered}
+use Rattle.trading_laws.proofs.Reports.{states-same}
 use Rattle.trading_laws.proofs.Room.{enter-room}
 use Rattle.law.proofs.Outs.{has-append-cases, unique-more}
 use Rattle.law.proofs.Filing.{Table, table-same, table-relook, table-low, filing, length-filed}
@@ -141,9 +142,16 @@ module _ (R : ℕ → Bool) (h : List Event) (s : State) (g : Good R h s) (f : O
       let w = after .sent in
       (w .0, subst (Shared (suc (s .arrivals)) (suc (s .numbered)) (w .0) (cond (routable o) (length (s .quotes)) 0)) (sym (w .2)) (routing-shared (routable o) (s .quotes) e (s .numbered) _))
 
+  -- what the rows leave to it
+  left : Room-for s (order-in R f) m
+  left = order-room s (order-in R f) m (order-rows R s f m fine)
+
+  few : length (r .out) ≤ 128
+  few = omega (arith, g .book .places, enter-room e R send i (suc (s .arrivals)) t b in′ empty)
+
   room : (length (r .slips) ≤ 15) × (length (r .slips) ≤ vacancies (s .sent))
   room = room-for (routable o) (length (r .slips)) (length (s .quotes)) (vacancies (s .sent)) (shared .1 .few) (g .fifteen)
-      (subst (λ x. routable x ≡ true → 15 ≤ vacancies (s .sent)) (sym is) (order-room s (order-in R f) m (order-rows R s f m fine) .vacant))
+      (subst (λ x. routable x ≡ true → 15 ≤ vacancies (s .sent)) (sym is) (left .vacant))
 
   announced-id : t .id ≡ f .id
   announced-id = admit-id R e (here b) o ∙ ap (λ x. x .id) is ∙ order-id R s f m fine
@@ -174,9 +182,10 @@ module _ (R : ℕ → Bool) (h : List Event) (s : State) (g : Good R h s) (f : O
     prices = after .shows (λ n. price-in n h) (g .unheard (suc (s .arrivals)) (omega arith)) (g .prices);
     unheard = λ n l. after .quiet n (price-in n h) (λ z. omega (arith, z, l)) ∙ g .unheard n (omega arith);
     fills = (subst (λ w. All (Fair w look) (r .out)) (ap bests (g .quotes)) (after .fair), g .fills);
-    room = ((omega (arith, g .book .places, enter-room e R send i (suc (s .arrivals)) t b in′ empty), room .0), g .room);
+    stated = (states-same (λ n. resting n (r .book)) _ (r .out) (λ n. omega (arith, sizes n)) (after .stated), g .stated);
+    room = ((few, room .0, omega (arith, few, left .reports), omega (arith, room .0, left .slips)), g .room);
     counted = (after .announces ∙ ap₂ (λ (x y : ℕ). (x, y) ∷ []) (ap suc (g .arrivals)) announced-id, subst (λ k. Consecutive (suc k) (r .slips)) (g .numbers) (shared .1 .numbers), g .counted);
-    answered = g .answered;
+    answered = (after .nothing-away, g .answered);
   }
     where
       h′ : List Event

@@ -30,8 +30,8 @@ use Rattle.rules.specs.Sizes.{part, resting}
 use Rattle.rules.specs.Routing.{bests}
 use Rattle.rules.specs.States.{State}
 use Rattle.rules.specs.Steps.{Event}
-use Rattle.rules.specs.Histories.{reports, slips, opened-in, told-in, best, accepted, numbered-in, out-in, gone, price-in, shown-in, touch-in, here-in, entry}
-use Rattle.rules.specs.Law.{Within, Fairly, Counted, Answered, Rests, Lawful, Kept}
+use Rattle.rules.specs.Histories.{opened-in, told-in, best, accepted, numbered-in, out-in, gone, price-in, shown-in, touch-in, here-in, entry}
+use Rattle.rules.specs.Law.{Within, Fairly, Counted, Answered, Stated, Roomy, Rests, Lawful, Kept}
 use Rattle.trading_laws.specs.Books.{Fits, Holds, Settled, Clear, Distinct, Numbered, Clean}
 use Rattle.trading_laws.proofs.Slots.{live-within}
 use Rattle.trading_laws.proofs.Touch.{tops-same}
@@ -66,7 +66,8 @@ pub record Good (R : ℕ → Bool) (h : List Event) (s : State) : Type 0 where
   -- an order that is yet to come was not booked
   pub unheard : (a : ℕ) → s .arrivals < a → price-in a h ≡ prices-of free
   pub fills : Fairly R h
-  pub room : All (λ e. (length (reports e) ≤ 128) × (length (slips e) ≤ 15)) h
+  pub stated : Stated R h
+  pub room : All Roomy h
   pub counted : Counted h
   pub answered : Answered h
 
@@ -126,8 +127,9 @@ module _ (R : ℕ → Bool) (h : List Event) (s : State) (g : Good R h s) where
         let i′ = subst (λ t. Within t p) (is-entry v n) i in
         let o = y′ ∙ sym (ap flip x′) in
         no-price (bests (s .quotes)) (entry R h) (at b (j .0)) (at b (k .0)) p (g .book .settled (j .0) (j .1)) (g .book .settled (k .0) (k .1)) o (g .book .clear (j .0) (k .0) (j .1) (k .1) o) (f′ .0, f′ .1, fx) (i′ .0, i′ .1, fy);
-    bounded = λ a m. let j = there a m in let f = g .book .settled (j .0) (j .1) .held .fits in rw (is-entry a m, is-priced a m, ← env) ((f .0, f .1), f .2);
+    bounded = λ a m. let j = there a m in let k = g .book .settled (j .0) (j .1) .held in rw (is-entry a m, is-priced a m, ← env) ((k .fits .0, k .fits .1), k .fits .2, k .some);
     within = λ a. omega (arith, g .sizes a);
+    stated = g .stated;
     room = g .room;
     counted = g .counted;
     answered = g .answered;

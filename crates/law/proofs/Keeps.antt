@@ -2,13 +2,13 @@
 --     after-opened, after-told, after-dropped, after-replied, after-left
 use mathlib.Core.Path.{_≡_, refl, sym, ap, subst, _∙_}
 use mathlib.Core.Bool.{Bool, false}
-use mathlib.Core.List.{List, _∷_}
+use mathlib.Core.List.{List, [], _∷_}
 use mathlib.Core.Logic.{_≢_}
-use Prim.Native.Nat.{ℕ, suc, _-_, _≤_}
+use Prim.Native.Nat.{ℕ, suc, _+_, _-_, _≤_}
 use native.Mathlib.Omega.{arith}
 use lib.Dec.{eqb}
 use lib.ListN.{length, set, length-set}
-use Rattle.std.proofs.shelf.Tests.{cond-both, and-parts, ltb-true, eqb-true, eq-eqb}
+use Rattle.std.proofs.shelf.Tests.{cond-both, and-parts, ltb-true, eqb-true, eq-eqb, ne-eqb}
 use Rattle.std.proofs.shelf.Sums.{sumBy-set}
 use Rattle.std.proofs.shelf.Elements.{all-kept-by}
 use Rattle.std.specs.Slices.{Ranks}
@@ -23,7 +23,7 @@ use Rattle.rules.specs.declared.Room.{Room}
 use Rattle.rules.specs.declared.Order.{Order}
 use Rattle.rules.specs.declared.Bests.{Bests}
 use Rattle.rules.specs.Book.{free, at, Live, prices-of}
-use Rattle.rules.specs.Sizes.{share, part, latest}
+use Rattle.rules.specs.Sizes.{share, part, resting, latest}
 use Rattle.rules.specs.Routing.{bests}
 use Rattle.rules.specs.Quoting.{quote}
 use Rattle.rules.specs.Slips.{no-sent, sent-at, out, Out-there, is-slip}
@@ -31,13 +31,13 @@ use Rattle.rules.specs.States.{State, named, opening, telling, dropping, replyi
 use Rattle.rules.specs.Faults.{refusal, order-place, slip-place}
 use Rattle.rules.specs.Steps.{Event}
 use Rattle.rules.specs.Steps.Event.{did, refused}
-use Rattle.rules.specs.Histories.{unanswered, out-in, told-in, price-in, entry}
+use Rattle.rules.specs.Histories.{unanswered, out-in, told-in, gone, price-in, entry}
 use Rattle.rules.specs.Law.{Fair}
-use Rattle.rules.proofs.Refusals.{reply-fits}
+use Rattle.rules.proofs.Refusals.{away-reports, cancel-reports, reply-reports, reply-fits}
 use Rattle.trading_laws.specs.Books.{Settled, Stems}
 use Rattle.trading_laws.proofs.Slots.{at-set, live-within, Picked, picked}
 use Rattle.trading_laws.proofs.Trade.{share-split}
-use Rattle.trading_laws.proofs.Turn.{part-none}
+use Rattle.trading_laws.proofs.Reports.{states-same, part-none}
 use Rattle.trading_laws.proofs.Telling.{distinct-stems, numbered-stems, free-holds, free-clear, free-clean, quote-told}
 use Rattle.trading_laws.proofs.Room.{quote-room}
 use Rattle.law.proofs.Seats.{Seated, seat-is, out-true}
@@ -79,9 +79,10 @@ module _ (R : ℕ → Bool) (h : List Event) (s : State) (g : Good R h s) where
     prices = g .prices;
     unheard = g .unheard;
     fills = (tt, g .fills);
-    room = ((omega arith, omega arith), g .room);
+    stated = (tt, g .stated);
+    room = ((omega arith, omega arith, omega arith, omega arith), g .room);
     counted = (refl, tt, g .counted);
-    answered = g .answered;
+    answered = (λ a. refl, g .answered);
   }
 
   pub after-left : (c : Call) (m : Room) (f : Fault) → Good R (refused c m f ∷ h) s
@@ -97,16 +98,19 @@ module _ (R : ℕ → Bool) (h : List Event) (s : State) (g : Good R h s) where
     prices = g .prices;
     unheard = g .unheard;
     fills = (tt, g .fills);
-    room = ((omega arith, omega arith), g .room);
+    stated = (tt, g .stated);
+    room = (tt, g .room);
     counted = g .counted;
     answered = g .answered;
   }
 
-  pub after-told : (x : ℕ) (q : Quote) (m : Room) → Good R (did (call.Away x q) m (telling R s x q .reports) (telling R s x q .slips) ∷ h) (telling R s x q .state)
-  after-told x q m =
+  pub after-told : (x : ℕ) (q : Quote) (m : Room) → refusal R s (call.Away x q) m ≡ None → Good R (did (call.Away x q) m (telling R s x q .reports) (telling R s x q .slips) ∷ h) (telling R s x q .state)
+  after-told x q m fine =
       let b = s .orders in
       let k = g .book in
       let t = quote-told e R (bests (s .quotes)) (entry R h) (s .arrivals) b (λ j l. k .settled j l .held) (k .clear) (k .distinct) (k .numbered) in
+      let sizes : (a : ℕ) → entry R h a .size ≡ gone a (did (call.Away x q) m (telling R s x q .reports) [] ∷ h) + resting a (quote e R b .book) = λ a. omega (arith, g .sizes a, t .sizes a, t .nothing-away a) in
+      let few : length (quote e R b .out) ≤ 128 = omega (arith, k .places, quote-room e R (entry R h) (bests (s .quotes)) (s .arrivals) b (λ j l. k .settled j l .held) (k .clear) (k .distinct) (k .numbered)) in
       record {
         opened = g .opened;
         quotes = told-same;
@@ -122,14 +126,15 @@ module _ (R : ℕ → Bool) (h : List Event) (s : State) (g : Good R h s) where
           places = t .long ∙ k .places;
         };
         seated = g .seated;
-        sizes = λ a. omega (arith, g .sizes a, t .sizes a, t .nothing-away a);
+        sizes = sizes;
         prices = λ j l. let w = t .stems j l in
             ap (λ y. latest y (price-in y h) (quote e R b .out)) (w .1) ∙ t .shows j (price-in (at b j .arrival) h) l (λ _. g .prices j (w .0)) (λ _. g .prices j (w .0));
         unheard = λ a n. t .quiet a (price-in a h) (λ j l z. omega (arith, z, n, k .numbered j l .1)) ∙ g .unheard a n;
         fills = (subst (λ w. All (Fair w (entry R h)) (quote e R b .out)) (ap bests told-same) (t .fair), g .fills);
-        room = ((omega (arith, k .places, quote-room e R (entry R h) (bests (s .quotes)) (s .arrivals) b (λ j l. k .settled j l .held) (k .clear) (k .distinct) (k .numbered)), omega arith), g .room);
+        stated = (states-same (λ a. resting a (quote e R b .book)) _ (quote e R b .out) (λ a. omega (arith, sizes a)) (t .stated), g .stated);
+        room = ((few, omega arith, omega (arith, few, away-reports R s x q m fine), omega arith), g .room);
         counted = (t .nothing-new, tt, g .counted);
-        answered = g .answered;
+        answered = (t .nothing-away, g .answered);
       }
     where
       e : Bests
@@ -138,8 +143,8 @@ module _ (R : ℕ → Bool) (h : List Event) (s : State) (g : Good R h s) where
       told-same : board.told (s .quotes) x q ≡ board.told (told-in h) x q
       told-same = ap (λ l. board.told l x q) (g .quotes)
 
-  pub after-dropped : (id : ℕ) (m : Room) (i : ℕ) → order-place s id ≡ Some i → Good R (did (call.Cancel id) m (dropping s i .reports) (dropping s i .slips) ∷ h) (dropping s i .state)
-  after-dropped id m i e =
+  pub after-dropped : (id : ℕ) (m : Room) (i : ℕ) → refusal R s (call.Cancel id) m ≡ None → order-place s id ≡ Some i → Good R (did (call.Cancel id) m (dropping s i .reports) (dropping s i .slips) ∷ h) (dropping s i .state)
+  after-dropped id m i fine e =
       let b = s .orders in
       let k = g .book in
       let l = named-lives s id i e in
@@ -163,9 +168,10 @@ module _ (R : ℕ → Bool) (h : List Event) (s : State) (g : Good R h s) where
         prices = λ j. at-set (λ o. Live o → price-in (o .arrival) h ≡ prices-of o) b i free j (λ y. absurd (omega arith)) (g .prices j);
         unheard = g .unheard;
         fills = ((tt, tt), g .fills);
-        room = ((omega arith, omega arith), g .room);
+        stated = (tt, g .stated);
+        room = ((omega arith, omega arith, omega (arith, cancel-reports R s id m fine), omega arith), g .room);
         counted = (refl, tt, g .counted);
-        answered = g .answered;
+        answered = (λ a. refl, g .answered);
       }
 
   pub after-replied : (n f : ℕ) (m : Room) (i : ℕ) → refusal R s (call.Reply n f) m ≡ None → slip-place s n ≡ Some i → Good R (did (call.Reply n f) m (replying s i f .reports) (replying s i f .slips) ∷ h) (replying s i f .state)
@@ -197,7 +203,8 @@ module _ (R : ℕ → Bool) (h : List Event) (s : State) (g : Good R h s) where
         prices = λ j l. said .quiet (at (s .orders) j .arrival) _ ∙ g .prices j l;
         unheard = λ a l. said .quiet a _ ∙ g .unheard a l;
         fills = (said .fair (bests (told-in h)) (entry R h), g .fills);
-        room = ((omega (arith, said .few), omega arith), g .room);
+        stated = (said .states _, g .stated);
+        room = ((omega (arith, said .few), omega arith, omega (arith, said .few, reply-reports R s n f m fine), omega arith), g .room);
         counted = (said .no-news, tt, g .counted);
         answered = (
           record {
@@ -205,6 +212,7 @@ module _ (R : ℕ → Bool) (h : List Event) (s : State) (g : Good R h s) where
             was-out = was;
             named = there .1;
             part = said .away-is (x .arrival) ∙ whole (x .arrival) f;
+            no-other = λ a ne. (said .away-is a ∙ nobody a (x .arrival) f ne, said .cancelled-is a ∙ nobody a (x .arrival) (x .size - f) ne);
             whole = omega (arith, said .away-is (x .arrival) ∙ whole (x .arrival) f, said .cancelled-is (x .arrival) ∙ whole (x .arrival) (x .size - f), fits);
           },
           g .answered,
@@ -213,3 +221,6 @@ module _ (R : ℕ → Bool) (h : List Event) (s : State) (g : Good R h s) where
     where
       whole : (a k : ℕ) → share a a k ≡ k
       whole a k = rw (eq-eqb a a refl) refl
+
+      nobody : (a b k : ℕ) → a ≢ b → share a b k ≡ 0
+      nobody a b k ne = rw (ne-eqb b a (λ z. ne (sym z))) refl

@@ -17,7 +17,7 @@ use Rattle.rules.specs.Steps.{Event, Step, Run}
 use Rattle.rules.specs.Steps.Step.{opened, told, entered, dropped, replied, left}
 use Rattle.rules.specs.Steps.Run.{start, next}
 use Rattle.rules.specs.Law.{Law}
-use Rattle.trading_laws.proofs.Turn.{part-none}
+use Rattle.trading_laws.proofs.Reports.{part-none}
 use Rattle.law.proofs.Outs.{has-none}
 use Rattle.law.proofs.Good.{Good, good-lawful, good-kept}
 use Rattle.law.proofs.Keeps.{after-opened, after-told, after-dropped, after-replied, after-left}
@@ -73,6 +73,7 @@ good-new R wide =
       prices = λ j m. absurd (dead j m);
       unheard = λ a n. refl;
       fills = tt;
+      stated = tt;
       room = tt;
       counted = tt;
       answered = tt;
@@ -81,9 +82,9 @@ good-new R wide =
 -- ---- every step
 keeps : {R : ℕ → Bool} {h : List Event} {s s′ : State} {e : Event} → Good R h s → Step R s e s′ → Good R (e ∷ h) s′
 keeps {R} {h} g (opened {s = s} {m = m} fine) = after-opened R h s g m
-keeps {R} {h} g (told {s = s} {m = m} {x = x} {q = q} fine) = after-told R h s g x q m
+keeps {R} {h} g (told {s = s} {m = m} {x = x} {q = q} fine) = after-told R h s g x q m fine
 keeps {R} {h} g (entered {s = s} {m = m} {f = f} i o fine is in′ empty) = after-entered R h s g f o m i fine is in′ empty
-keeps {R} {h} g (dropped {s = s} {m = m} {id = id} i fine place) = after-dropped R h s g id m i place
+keeps {R} {h} g (dropped {s = s} {m = m} {id = id} i fine place) = after-dropped R h s g id m i fine place
 keeps {R} {h} g (replied {s = s} {m = m} {n = n} {f = f} i fine place) = after-replied R h s g n f m i fine place
 keeps {R} {h} g (left {s = s} {c = c} {m = m} f why) = after-left R h s g c m f
 

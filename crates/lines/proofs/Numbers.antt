@@ -8,6 +8,7 @@ use native.Mathlib.Omega.{arith}
 use native.Mathlib.Nat.{pow-suc, mul-assoc}
 use borrow.Author.Needs.{needs}
 use lib.Dec.{leb, eqb}
+use lib.Utf8.{encode}
 use lib.ListN.{length, getD}
 use Rattle.std.specs.Written.{decimal}
 use Rattle.std.specs.Text.{In}
@@ -18,7 +19,7 @@ use Rattle.std.proofs.shelf.Decimals.{digits-decimal, value-decimal, decimal-va
 use Rattle.std.proofs.shelf.Tests.{cases-eq, eq-eqb, ne-eqb, eqb-true, le-leb, lt-leb, leb-true, and-parts, and-from, and-left, and-right, or-left, or-right, or-cases, not-true, not-from-false, eqb-false, cond-true, cond-false}
 use Rattle.values.specs.declared.terms.Letter.{Letter}
 use Rattle.values.specs.declared.terms.Letter.the-variants as letters
-use Rattle.values.specs.Texts.{letter-text}
+use Rattle.values.specs.Texts.{capital, letter-text}
 use Rattle.lines.specs.Digits.{from-last, value-of, all-digits, is-number}
 use Rattle.lines.specs.Words.{number, letter, unreadable, is-letter, word-of}
 use Rattle.lines.specs.Calls.{letter-of}
@@ -99,14 +100,17 @@ capital-back f c e =
 pub capital-word : (c : ℕ) → 65 ≤ c → c ≤ 90 → word-of (c ∷ []) ≡ letter c
 capital-word c low high = cond-true (is-letter (c ∷ [])) (letter c) _ (and-from (leb 65 c) (leb c 90) (le-leb 65 c low) (le-leb c 90 high))
 
-kept : (c n : ℕ) (l o : Letter) → letter-text l ≡ n ∷ [] → letter-text o ≡ c ∷ [] → letter-text (cond (eqb c n) l o) ≡ c ∷ []
+kept : (c n : ℕ) (l o : Letter) → capital l ≡ n → capital o ≡ c → capital (cond (eqb c n) l o) ≡ c
 kept c n l o is rest =
     elim (cases-eq c n) [
-      | inl same ↦ ap letter-text (cond-true (eqb c n) l o (eq-eqb c n same)) ∙ is ∙ ap (λ x. x ∷ []) (sym same)
-      | inr other ↦ ap letter-text (cond-false (eqb c n) l o (ne-eqb c n other)) ∙ rest
+      | inl same ↦ ap capital (cond-true (eqb c n) l o (eq-eqb c n same)) ∙ is ∙ sym same
+      | inr other ↦ ap capital (cond-false (eqb c n) l o (ne-eqb c n other)) ∙ rest
     ]
+
+capital-of : (c : ℕ) → capital (letter-of c) ≡ c
+capital-of c =
+    kept c 80 letters.P _ refl (kept c 77 letters.M _ refl (kept c 78 letters.N _ refl (kept c 66 letters.B _ refl (kept c 83 letters.S _ refl (kept c 67 letters.C _ refl (kept c 76 letters.L _ refl (kept c 73 letters.I _ refl (kept c 75 letters.K _ refl (kept c 82 letters.R _ refl (kept c 68 letters.D (letters.Unlisted c) refl refl))))))))))
 
 -- a capital that is read as a letter is written as it stood
 pub letter-back : (c : ℕ) → c ≤ 90 → letter-text (letter-of c) ≡ c ∷ []
-letter-back c h =
-    kept c 80 letters.P _ refl (kept c 77 letters.M _ refl (kept c 78 letters.N _ refl (kept c 66 letters.B _ refl (kept c 83 letters.S _ refl (kept c 67 letters.C _ refl (kept c 76 letters.L _ refl (kept c 73 letters.I _ refl (kept c 75 letters.K _ refl (kept c 82 letters.R _ refl (kept c 68 letters.D (letters.Unlisted c) refl (encode-ascii c (omega arith))))))))))))
+letter-back c h = ap encode (capital-of c) ∙ encode-ascii c (omega arith)

@@ -10,6 +10,7 @@ use Rattle.std.specs.shelf.Lists.{All}
 use Rattle.std.specs.declared.option.Option.{Option}
 use Rattle.std.specs.declared.option.Option.the-variants.{Some, None}
 use Rattle.std.specs.declared.result.Result.the-variants.{Ok}
+use Rattle.std.proofs.shelf.Ascii.{encode-ascii}
 use Rattle.std.proofs.shelf.Elements.{all-from-getD}
 use Rattle.std.proofs.shelf.Decimals.{length-decimal-le}
 use Rattle.std.proofs.shelf.Tests.{le-leb, cond-true}
@@ -24,7 +25,7 @@ use Rattle.lines.specs.Rounds.{Plain, HeadersReturn, CallsReturn}
 use Rattle.lines.proofs.Cuts.{other}
 use Rattle.lines.proofs.Naming.{line-named}
 use Rattle.lines.proofs.Refusing.{by-count}
-use Rattle.lines.proofs.Numbers.{decimal-digits, decimal-word, capital-word, letter-back}
+use Rattle.lines.proofs.Numbers.{decimal-digits, decimal-word, capital-word}
 use Rattle.lines.proofs.Rewriting.{piece, written}
 
 -- what a field can be written from
@@ -115,7 +116,7 @@ returned forms none k form ns is clear small fit =
 
 -- a plain letter is written as its capital
 plain-text : (l : Letter) → Plain l → letter-text l ≡ capital l ∷ []
-plain-text l h = ap letter-text (sym (h .2)) ∙ letter-back (capital l) (h .1)
+plain-text l h = encode-ascii (capital l) (omega arith)
 
 pub headers-return : HeadersReturn
 headers-return h w =

@@ -1,5 +1,8 @@
 -- What is known of a call that is not refused. Assumes nothing.
-use mathlib.Core.Path.{_≡_, refl, sym, ap, _∙_}
+--     order-rows, order-room      an order that is accepted was checked; what the rows leave to it
+--     reply-fits                  a reply fills no more than its slip carries
+--     away-reports, cancel-reports, reply-reports     these calls have room for 128 reports
+use mathlib.Core.Path.{_≡_, refl, sym, ap, subst, _∙_}
 use mathlib.Core.Bool.{Bool, true, false, cond, not, _&&_}
 use Prim.Native.Nat.{ℕ, _<_, _≤_}
 use native.Mathlib.Omega.{arith}
@@ -9,21 +12,24 @@ use Rattle.std.specs.declared.option.Option.{Option}
 use Rattle.std.specs.declared.option.Option.the-variants.{Some, None}
 use Rattle.std.specs.declared.result.Result.{Result}
 use Rattle.std.specs.declared.result.Result.the-variants as result
+use Rattle.market.specs.declared.board.Quote.{Quote}
 use Rattle.values.specs.declared.calls.OrderFields.{OrderFields}
+use Rattle.values.specs.declared.calls.Call.{Call}
 use Rattle.values.specs.declared.calls.Call.the-variants as call
 use Rattle.values.specs.declared.faults.Fault.{Fault}
 use Rattle.values.specs.declared.faults.CheckFault.{CheckFault}
 use Rattle.values.specs.declared.faults.MonitorFault.{MonitorFault}
 use Rattle.values.specs.Codes.{of-check, of-monitor}
 use Rattle.checks.specs.declared.checked.CheckedOrder.{CheckedOrder}
+use Rattle.checks.specs.declared.checked.CheckedCall.{CheckedCall}
 use Rattle.checks.specs.declared.checked.CheckedCall.the-variants as checked
-use Rattle.checks.specs.Checked.{checked-order, routable, then}
-use Rattle.checks.specs.Fields.{within}
+use Rattle.checks.specs.Checked.{checked-order, checked-call, routable, then}
+use Rattle.checks.specs.Fields.{within, size-beside, on-ladder}
 use Rattle.rules.specs.declared.Room.{Room}
 use Rattle.rules.specs.Slips.{sent-at, vacancies}
 use Rattle.rules.specs.Book.{branch, found, taken}
 use Rattle.rules.specs.States.{State}
-use Rattle.rules.specs.Faults.{rows, refusal, unless-checked, slip-place, above-size, in-use, objection-now}
+use Rattle.rules.specs.Faults.{opens, waits, rows, refusal, unless-checked, slip-place, above-size, in-use, objection-now}
 use Rattle.rules.specs.Steps.{order-in, or-none}
 
 some-not-none : (f : Fault) → _≡_ {A = Option Fault} (Some f) None → ⊥
@@ -87,6 +93,50 @@ order-room s o m h =
     no-fault None e = refl
     no-fault (Some x) e = absurd (some-not-none (of-monitor x) e)
 
+-- ---- room for reports, of any call but the opening
+rows-reports : (s : State) (k : CheckedCall) (m : Room) → opens k ≡ false → rows s k m ≡ None → 128 ≤ m .reports
+unfolding rows
+rows-reports s k m e h =
+    let a = passed (waits k && not (s .opened)) _ _ h in
+    let b = passed (opens k && s .opened) _ _ (a .1) in
+    let c = passed (not (opens k) && ltb (m .reports) 128) _ _ (b .1) in
+    ltb-false (m .reports) 128 (subst (λ o. (not o && ltb (m .reports) 128) ≡ false) e (c .0))
+
+abbrev Opens-not : Result CheckedCall CheckFault → Type 0
+Opens-not (result.Ok k) = opens k ≡ false
+Opens-not (result.Err f) = Unit {0}
+
+goes-on : {A : Type 0} (r : Result A CheckFault) (next : A → Result CheckedCall CheckFault) → ((x : A) → Opens-not (next x)) → Opens-not (then r next)
+goes-on (result.Ok x) next h = h x
+goes-on (result.Err f) next h = tt
+
+call-reports : (R : ℕ → Bool) (s : State) (c : Call) (m : Room) → Opens-not (checked-call R c) → refusal R s c m ≡ None → 128 ≤ m .reports
+unfolding refusal
+call-reports R s c m = go (checked-call R c)
+  where
+    go : (r : Result CheckedCall CheckFault) → Opens-not r → unless-checked r (λ k. rows s k m) ≡ None → 128 ≤ m .reports
+    go (result.Ok k) n e = rows-reports s k m n e
+    go (result.Err x) n e = absurd (some-not-none (of-check x) e)
+
+pub away-reports : (R : ℕ → Bool) (s : State) (x : ℕ) (q : Quote) (m : Room) → refusal R s (call.Away x q) m ≡ None → 128 ≤ m .reports
+away-reports R s x q m =
+    call-reports R s (call.Away x q) m
+    (goes-on (within 1 15 2 x) _ (λ _.
+    goes-on (within 0 100000 3 (q .bid)) _ (λ _.
+    goes-on (size-beside 4 (q .bid) (q .«bid_size»)) _ (λ _.
+    goes-on (within 0 100000 5 (q .offer)) _ (λ _.
+    goes-on (size-beside 6 (q .offer) (q .«offer_size»)) _ (λ _.
+    goes-on (on-ladder R 3 (q .bid)) _ (λ _.
+    goes-on (on-ladder R 5 (q .offer)) _ (λ _.
+    refl))))))))
+
+pub cancel-reports : (R : ℕ → Bool) (s : State) (id : ℕ) (m : Room) → refusal R s (call.Cancel id) m ≡ None → 128 ≤ m .reports
+cancel-reports R s id m = call-reports R s (call.Cancel id) m (goes-on (within 1 999999 2 id) _ (λ _. refl))
+
+pub reply-reports : (R : ℕ → Bool) (s : State) (n f : ℕ) (m : Room) → refusal R s (call.Reply n f) m ≡ None → 128 ≤ m .reports
+reply-reports R s n f m = call-reports R s (call.Reply n f) m (goes-on (within 1 15000000 2 n) _ (λ _. goes-on (within 0 9999 3 f) _ (λ _. refl)))
+
+-- ---- replies
 reply-rows : (s : State) (n f : ℕ) (m : Room) → rows s (checked.Reply n f) m ≡ None → above-size s n f ≡ false
 unfolding rows
 reply-rows s n f m h =

@@ -6,15 +6,15 @@ use mathlib.Core.Logic.{⊎-elim}
 use Prim.Native.Nat.{ℕ, zero, suc, _+_, _<_, _≤_}
 use native.Mathlib.Omega.{arith}
 use native.Mathlib.Numerals.{add-one}
-use lib.ListN.{length, set, take}
-use Rattle.std.proofs.shelf.Lists.{take-all}
+use lib.ListN.{length, getD, set, take, drop}
+use Rattle.std.proofs.shelf.Lists.{take-all, drop-more, drop-all}
 use Rattle.std.proofs.shelf.Tests.{cases-lt}
 use Rattle.std.specs.declared.option.Option.{Option}
 use Rattle.std.specs.declared.option.Option.the-variants.{Some, None}
 use Rattle.values.specs.declared.reports.Slip.{Slip}
 use Rattle.rules.specs.declared.Sent.{Sent}
 use Rattle.rules.specs.Book.{branch}
-use Rattle.rules.specs.Slips.{sent-at, seat, vacant, vacancies, file}
+use Rattle.rules.specs.Slips.{sent-at, seat, vacant, vacancies, file, filed}
 
 module _ (c : Sent → Bool) (b : List Sent) where
   pub seat-none : seat c b 0 ≡ None
@@ -49,3 +49,12 @@ module _ (id : ℕ) (s : Slip) (b : List Sent) where
   pub file-some : (i : ℕ) → Some i ≡ seat vacant b (length b) → set b i (record { slip = s; id = id }) ≡ file id s b
   unfolding file
   file-some i e = rw (← e) refl
+
+-- ---- filing slip after slip
+pub filed-on : (id : ℕ) (ss : List Slip) (i : ℕ) (d : Slip) (b b′ : List Sent) (end : List Sent) → i < length ss → b′ ≡ file id (getD ss i d) b → filed id (drop i ss) b ≡ end → filed id (drop (i + 1) ss) b′ ≡ end
+unfolding filed
+filed-on id ss i d b b′ end h e f = ap (filed id (drop (i + 1) ss)) e ∙ sym (ap (λ xs. filed id xs b) (drop-more ss i d h)) ∙ f
+
+pub filed-all : (id : ℕ) (ss : List Slip) (i : ℕ) (b end : List Sent) → length ss ≤ i → filed id (drop i ss) b ≡ end → b ≡ end
+unfolding filed
+filed-all id ss i b end h f = sym (ap (λ xs. filed id xs b) (drop-all i ss h)) ∙ f

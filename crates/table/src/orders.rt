@@ -13,4 +13,4 @@ pub struct Orders {
 
 mod edits;
 mod scans;
-mod tests;
+pub mod place;

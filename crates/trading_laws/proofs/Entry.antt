@@ -19,6 +19,7 @@ use Rattle.rules.specs.Sizes.{latest}
 use Rattle.trading_laws.specs.Books.{Holds, Settled, Clear, Distinct, Numbered}
 use Rattle.trading_laws.specs.Turns.{Modest, After, Entered}
 use Rattle.trading_laws.proofs.Trade.{low-keeps}
+use Rattle.trading_laws.proofs.Reports.{none-of}
 use Rattle.trading_laws.proofs.Turn.{settled-steady, turn-after}
 use Rattle.trading_laws.proofs.Telling.{stems-low}
 
@@ -76,6 +77,7 @@ module _ (e : Bests) (R : ℕ → Bool) (look : ℕ → Terms) (send : Order →
       nothing-away = λ a. omega (arith, after .nothing-away a);
       announces = ap (λ l. (suc n, t .id) ∷ l) (after .nothing-new);
       fair = (tt, after .fair);
+      stated = after .stated (none-of (suc n) b (λ j m z. omega (arith, z, numbered j m .1)));
       quiet = after .quiet;
       shows = shows;
     }

@@ -2,6 +2,7 @@ pub mod Bounds
 pub mod Slots
 pub mod Touch
 pub mod Trade
+pub mod Reports
 pub mod Turn
 pub mod Entry
 pub mod Telling

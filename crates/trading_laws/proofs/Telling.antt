@@ -36,7 +36,8 @@ use Rattle.trading_laws.specs.Turns.{After, Told}
 use Rattle.trading_laws.proofs.Bounds.{ok-false, ok-true, true-ok, ok-self, ok-trans}
 use Rattle.trading_laws.proofs.Slots.{Picked, picked, branch-both, at-same, at-other, at-set, live-within}
 use Rattle.trading_laws.proofs.Trade.{low-keeps, held-steady}
-use Rattle.trading_laws.proofs.Turn.{settled-steady, apart-sym, clear-set, part-none, filled-++, cancelled-++, away-++, latest-++, no-news-++, turn-after}
+use Rattle.trading_laws.proofs.Reports.{filled-++, cancelled-++, away-++, latest-++, no-news-++, states-same, states-++, part-none, none-of, sum-mono}
+use Rattle.trading_laws.proofs.Turn.{settled-steady, apart-sym, clear-set, turn-after}
 
 -- ---- the places keep their orders
 pub stems-trans : (b c d : List Order) → Stems b c → Stems c d → Stems b d
@@ -51,13 +52,7 @@ numbered-stems n b c f h j l = let x = f j l in subst (λ a. (0 < a) × (a ≤ n
 pub stems-low : (b c : List Order) (j : ℕ) → Low (at b j) (at c j) → Live (at c j) → Live (at b j) × (at c j .arrival ≡ at b j .arrival)
 stems-low b c j f l = (f .live l, ap (λ o. o .arrival) (f .same l))
 
--- ---- sums over two books, place by place
-sum-mono : (f g : Order → ℕ) (b c : List Order) → length c ≡ length b → ((j : ℕ) → g (at c j) ≤ f (at b j)) → sumBy g c ≤ sumBy f b
-sum-mono f g [] [] e h = omega arith
-sum-mono f g [] (y ∷ c) e h = absurd (omega arith)
-sum-mono f g (x ∷ b) [] e h = omega arith
-sum-mono f g (x ∷ b) (y ∷ c) e h = omega (arith, sumBy-cons f x b, sumBy-cons g y c, h 0, sum-mono f g b c (omega arith) (λ j. h (suc j)))
-
+-- ---- the clamp keeps sums
 sum-map : (f : Order → ℕ) (g : Order → Order) → ((o : Order) → f (g o) ≡ f o) → (b : List Order) → sumBy f (map g b) ≡ sumBy f b
 sum-map f g h [] = refl
 sum-map f g h (x ∷ b) = omega (arith, sumBy-cons f x b, sumBy-cons f (g x) (map g b), h x, sum-map f g h b)
@@ -107,6 +102,7 @@ module _ (e : Bests) (R : ℕ → Bool) (look : ℕ → Terms) where
     nothing-away = λ x. refl;
     nothing-new = refl;
     fair = tt;
+    stated = tt;
     quiet = λ x p n. refl;
     shows = λ j p m now _. now (up j m);
   }
@@ -132,6 +128,13 @@ module _ (e : Bests) (R : ℕ → Bool) (look : ℕ → Terms) where
 
     low : (j : ℕ) → j ≢ i → Low (at b j) (at (r .book) j)
     low j ne = subst (λ o. Low o (at (r .book) j)) (at-other b i free j ne) (after .others j ne)
+
+    -- no other has its number
+    pub alone : resting (t .arrival) c ≡ 0
+    alone = none-of (t .arrival) c (λ j. elim (cases-eq j i) [
+      | inl y ↦ subst (λ k. Live (at c k) → at c k .arrival ≢ t .arrival) (sym y) (λ m. let z : 0 < 0 = subst Live (at-same b i free within) m in absurd (omega arith))
+      | inr n ↦ subst (λ o. Live o → o .arrival ≢ t .arrival) (sym (at-other b i free j n)) (λ m z. n (h .distinct j i m live z))
+    ])
 
     -- what holds of i's order and of the others holds of all
     each : (P : Order → Type 0) (j : ℕ) → (Live (at (r .book) i) → P (at (r .book) i)) → (j ≢ i → Live (at (r .book) j) → P (at (r .book) j)) → Live (at (r .book) j) → P (at (r .book) j)
@@ -226,6 +229,7 @@ module _ (e : Bests) (R : ℕ → Bool) (look : ℕ → Terms) where
         nothing-new = no-news-++ (r .out) (s .out) (f .nothing-new) (g .nothing-new);
         sizes = λ x. omega (arith, g .sizes x, f .sizes x, unsent x (at b i .arrival) (total (r .slips)) (ap total (f .sent .2)), sumBy-set (part x) b i free free m, part-none x free refl, filled-++ x (r .out) (s .out), cancelled-++ x (r .out) (s .out));
         fair = all-append (Fair e look) (r .out) (s .out) (f .fair) (g .fair);
+        stated = states-++ (λ x. resting x (s .book)) (r .out) (s .out) (states-same (λ x. resting x (r .book)) _ (r .out) (g .sizes) (f .stated (alone a b old h i next))) (g .stated);
         quiet = λ x p n. latest-++ x p (r .out) (s .out) ∙ ap (λ y. latest x y (s .out)) (f .quiet x p (λ z. n i (later-parts a (at b i) (next .0) .0) (sym z)))
             ∙ g .quiet x p (λ j k z. let w = turn-stems a b old h i next j k in n j (w .0) (sym (w .1) ∙ z));
         shows = λ j p k now then.
@@ -317,6 +321,7 @@ module _ (e : Bests) (R : ℕ → Bool) where
           nothing-away = g .nothing-away;
           nothing-new = g .nothing-new;
           fair = g .fair;
+          stated = g .stated;
           quiet = λ x p n. g .quiet x p (λ j k z. let w = clamp-stems j k in n j (w .0) (sym (w .1) ∙ z));
           shows = λ j p m now then.
               let k = g .stems j m .0 in

@@ -2,7 +2,7 @@
 --     low-keeps           what does not speak of what remains is kept
 --     trade-lowers        trading only lowers places
 --     trade-sizes         what it fills is gone from the taker and from the makers
---     trade-fair          at prices that both orders and the away best allow
+--     trade-fair          a buy with a sell, at prices that both orders and the away best allow
 --     trade-stops         and it stops only where no contra price is left that fits
 use mathlib.Core.Path.{_≡_, refl, sym, ap, subst, _∙_}
 use mathlib.Core.Bool.{cond}
@@ -28,7 +28,7 @@ use Rattle.rules.specs.Sides.{flip, Ok, facing}
 use Rattle.rules.specs.Book.{free, at, live, Live, side-of, with-rem, lower, taken}
 use Rattle.rules.specs.Trading.{Traded, hit, trade}
 use Rattle.rules.specs.Sizes.{share, part, resting, filled, away, cancelled, latest, news}
-use Rattle.rules.specs.Law.{Fair, Within}
+use Rattle.rules.specs.Law.{Fair, States-rest, Within}
 use Rattle.trading_laws.specs.Books.{Fits, Holds, Held, Low}
 use Rattle.trading_laws.proofs.Slots.{branch-both, at-cases, live-within, Hit, hits}
 
@@ -132,6 +132,12 @@ held-steady e look o n h = record { known = h .known; fits = h .fits; some = h .
 pub holds-lower : (P : Order → Type 0) → Steady P → (b c : List Order) → Lower b c → Holds P b → Holds P c
 holds-lower P s b c f h j = low-keeps P (f j) (s (at b j)) (h j)
 
+pub flip-flip : (s t : Side) → t ≡ flip s → s ≡ flip t
+flip-flip Buy Buy e = e
+flip-flip Buy Sell e = refl
+flip-flip Sell Buy e = refl
+flip-flip Sell Sell e = e
+
 -- a price that both sides allow, told from either side
 both-allow : (e : Bests) (t m : Order) (p : ℕ) → side-of m ≡ flip (side-of t) → Fits e t p → Fits e m p → Ok Buy (e .offer) p × Ok Sell (e .bid) p
 both-allow e t m p s f g = go (side-of t) (f .2) (subst (λ d. Ok d (facing e d) p) s (g .2))
@@ -141,13 +147,14 @@ both-allow e t m p s f g = go (side-of t) (f .2) (subst (λ d. Ok d (facing e d)
     go Sell h k = (k, h)
 
 module _ (e : Bests) (look : ℕ → Terms) where
-  fair : (t : Order) (b : List Order) (i q : ℕ) → look (t .arrival) ≡ t .terms → Holds (Held e look) b → Hit e t b (Some i) → Fair e look (Fill (t .arrival) (at b i .arrival) (at b i .booked) q)
-  fair t b i q known held h =
+  fair : (t : Order) (b : List Order) (i q : ℕ) → look (t .arrival) ≡ t .terms → Holds (Held e look) b → Hit e t b (Some i) → 0 < q → Fair e look (Fill (t .arrival) (at b i .arrival) (at b i .booked) q)
+  fair t b i q known held h some =
       let m = at b i in
       let k = held i (h .1) in
       let p = m .booked in
       let both = both-allow e t m p (h .2) (h .3) (k .fits) in
-      (both .0, both .1, subst (λ w. Within w p) (sym known) (h .3 .0, h .3 .1), subst (λ w. Within w p) (sym (k .known)) (k .fits .0, k .fits .1))
+      let sides : side-of t ≡ flip (side-of m) = flip-flip (side-of t) (side-of m) (h .2) in
+      (both .0, both .1, subst (λ w. Within w p) (sym known) (h .3 .0, h .3 .1), subst (λ w. Within w p) (sym (k .known)) (k .fits .0, k .fits .1), rw (known, k .known) sides, some)
 
   pub trade-fair : (n : ℕ) (t : Order) (b : List Order) → look (t .arrival) ≡ t .terms → Holds (Held e look) b → All (Fair e look) (trade n e t b .out)
   unfolding trade
@@ -155,7 +162,7 @@ module _ (e : Bests) (look : ℕ → Terms) where
   trade-fair (suc n) t b known held =
       branch-both (hit e t b) _ _ (λ (d : Traded). All (Fair e look) (d .out)) (λ h. tt)
       (λ i h. (
-        fair t b i 0 known held (found e t b i h),
+        fair t b i _ known held (found e t b i h) (omega (arith, found e t b i h .0, found e t b i h .1)),
         trade-fair n _ _ known (holds-lower (Held e look) (held-steady e look) b _ (low-set b i _ (found e t b i h .1)) held),
       ))
 
@@ -205,6 +212,12 @@ module _ (e : Bests) where
   unfolding trade
   trade-news zero t b = refl
   trade-news (suc n) t b = branch-both (hit e t b) _ _ (λ (d : Traded). news (d .out) ≡ []) (λ h. refl) (λ i h. trade-news n _ _)
+
+  -- trading books nothing
+  pub trade-states : (f : ℕ → ℕ) (n : ℕ) (t : Order) (b : List Order) → States-rest f (trade n e t b .out)
+  unfolding trade
+  trade-states f zero t b = tt
+  trade-states f (suc n) t b = branch-both (hit e t b) _ _ (λ (d : Traded). States-rest f (d .out)) (λ h. tt) (λ i h. trade-states f n _ _)
 
   -- no more is left of the taker than there was
   pub trade-less : (n : ℕ) (t : Order) (b : List Order) → trade n e t b .taker .remaining ≤ t .remaining

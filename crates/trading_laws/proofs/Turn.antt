@@ -33,13 +33,14 @@ use Rattle.rules.specs.Trading.{within, trade}
 use Rattle.rules.specs.Routing.{total}
 use Rattle.rules.specs.Resting.{Out, rest-at, settle, turn}
 use Rattle.rules.specs.Sizes.{share, part, resting, filled, away, cancelled, showing, latest, news}
-use Rattle.rules.specs.Law.{Fair}
+use Rattle.rules.specs.Law.{Fair, States-rest}
 use Rattle.rules.proofs.Rungs.{behind-unlocked, beneath-less, above-more}
 use Rattle.trading_laws.specs.Books.{Fits, Holds, Held, Settled, Apart, Clear, Most, Clean, Low}
 use Rattle.trading_laws.specs.Turns.{Modest, After}
 use Rattle.trading_laws.proofs.Bounds.{ok-true, ok-self, ok-trans, past-or-ok, past-flip}
 use Rattle.trading_laws.proofs.Slots.{branch-both, at-same, at-other, at-set}
-use Rattle.trading_laws.proofs.Trade.{low-refl, low-trans, low-keeps, Lower, Steady, Stopped, held-steady, share-split, trade-length, trade-taker, trade-lowers, trade-sizes, trade-fair, trade-stops, trade-cancels, trade-latest, trade-away, trade-news, trade-less}
+use Rattle.trading_laws.proofs.Reports.{filled-++, cancelled-++, away-++, latest-++, no-news-++, states-++, part-none, resting-lower}
+use Rattle.trading_laws.proofs.Trade.{flip-flip, low-refl, low-trans, low-keeps, Lower, Steady, Stopped, held-steady, share-split, trade-length, trade-taker, trade-lowers, trade-sizes, trade-fair, trade-stops, trade-cancels, trade-latest, trade-away, trade-news, trade-states, trade-less}
 
 -- ---- what rests
 pub settled-steady : (e : Bests) (look : ℕ → Terms) → Steady (Settled e look)
@@ -95,12 +96,6 @@ rest-at-rests e R t =
     (λ _. tt))
 
 -- ---- no buy is booked at or above a sell
-flip-flip : (s t : Side) → t ≡ flip s → s ≡ flip t
-flip-flip Buy Buy e = e
-flip-flip Buy Sell e = refl
-flip-flip Sell Buy e = refl
-flip-flip Sell Sell e = e
-
 pub apart-sym : (x y : Order) → Apart x y → Apart y x
 apart-sym x y h m l s =
     let r = flip-flip (side-of y) (side-of x) s in
@@ -128,37 +123,6 @@ clear-set b i v old new j k =
 most-lower : (b c : List Order) → Lower b c → Most b → Most c
 most-lower b c f h j l = let x = f j in omega (arith, x .less l, h j (x .live l), ap (λ o. o .terms .size) (x .same l))
 
--- ---- what is reported
-pub filled-++ : (a : ℕ) (rs ss : List Report) → filled a (rs ++ ss) ≡ filled a rs + filled a ss
-filled-++ a [] ss = omega arith
-filled-++ a (r ∷ rs) ss = omega (arith, filled-++ a rs ss)
-
-pub cancelled-++ : (a : ℕ) (rs ss : List Report) → cancelled a (rs ++ ss) ≡ cancelled a rs + cancelled a ss
-cancelled-++ a [] ss = omega arith
-cancelled-++ a (r ∷ rs) ss = omega (arith, cancelled-++ a rs ss)
-
-pub away-++ : (a : ℕ) (rs ss : List Report) → away a (rs ++ ss) ≡ away a rs + away a ss
-away-++ a [] ss = omega arith
-away-++ a (r ∷ rs) ss = omega (arith, away-++ a rs ss)
-
-pub latest-++ : (a : ℕ) (p : Prices) (rs ss : List Report) → latest a p (rs ++ ss) ≡ latest a (latest a p rs) ss
-latest-++ a p [] ss = refl
-latest-++ a p (r ∷ rs) ss = latest-++ a (showing a p r) rs ss
-
-pub news-++ : (rs ss : List Report) → news (rs ++ ss) ≡ news rs ++ news ss
-news-++ [] ss = refl
-news-++ (New x i ∷ rs) ss = ap (λ l. (x, i) ∷ l) (news-++ rs ss)
-news-++ (Fill t m y q ∷ rs) ss = news-++ rs ss
-news-++ (Booked x y d n ∷ rs) ss = news-++ rs ss
-news-++ (Cancelled x n c ∷ rs) ss = news-++ rs ss
-news-++ (FilledAway x k n ∷ rs) ss = news-++ rs ss
-
-pub no-news-++ : (rs ss : List Report) → news rs ≡ [] → news ss ≡ [] → news (rs ++ ss) ≡ []
-no-news-++ rs ss h k = news-++ rs ss ∙ ap₂ (λ x y. x ++ y) h k
-
-pub part-none : (a : ℕ) (o : Order) → o .remaining ≡ 0 → part a o ≡ 0
-part-none a o h = grind (arith, tells)
-
 -- ---- coming to rest in the free place i
 record Placed (e : Bests) (look : ℕ → Terms) (i : ℕ) (old t : Order) (b : List Order) (r : Out) : Type 0 where
   pub long : length (r .book) ≡ length b
@@ -171,6 +135,7 @@ record Placed (e : Bests) (look : ℕ → Terms) (i : ℕ) (old t : Order) (b : 
   pub nothing-away : (a : ℕ) → away a (r .out) ≡ 0
   pub nothing-new : news (r .out) ≡ []
   pub fair : All (Fair e look) (r .out)
+  pub stated : resting (t .arrival) b ≡ 0 → States-rest (λ a. resting a (r .book)) (r .out)
   pub quiet : (a : ℕ) (p : Prices) → a ≢ t .arrival → latest a p (r .out) ≡ p
   pub shows : Live (at (r .book) i) → latest (t .arrival) (prices-of old) (r .out) ≡ prices-of (at (r .book) i)
 
@@ -195,6 +160,7 @@ module _ (e : Bests) (R : ℕ → Bool) (look : ℕ → Terms) where
         nothing-away = λ a. refl;
         nothing-new = refl;
         fair = (tt, tt);
+        stated = λ _. tt;
         quiet = λ a p ne. refl;
         shows = λ m. absurd (dead b i empty m);
       })
@@ -210,6 +176,7 @@ module _ (e : Bests) (R : ℕ → Bool) (look : ℕ → Terms) where
         nothing-away = λ a. refl;
         nothing-new = refl;
         fair = tt;
+        stated = λ _. tt;
         quiet = λ a p ne. refl;
         shows = λ m. absurd (dead b i empty m);
       })
@@ -244,8 +211,16 @@ module _ (e : Bests) (R : ℕ → Bool) (look : ℕ → Terms) where
             quiet = λ a q ne. unheard a q ne (p .booked) (p .displayed) (t .remaining) c;
             shows = λ _. subst (λ o. latest (t .arrival) (prices-of old) (cond c [] (Booked (t .arrival) (p .booked) (p .displayed) (t .remaining) ∷ [])) ≡ prices-of o) (sym (at-same b i v in′)) (heard p c refl);
             fair = silent 0 (t .arrival) (p .booked) (p .displayed) (t .remaining) c .4;
+            stated = λ none. states c (omega (arith, none, sumBy-set (part (t .arrival)) b i v free in′, part-none (t .arrival) (at b i) (ap (λ o. o .remaining) empty), mine));
           }
         where
+          mine : part (t .arrival) t ≡ t .remaining
+          mine = rw (eq-eqb (t .arrival) (t .arrival) refl) refl
+
+          states : (c : Bool) → let v = priced t (p .booked) (p .displayed) in resting (t .arrival) (set b i v) ≡ t .remaining → States-rest (λ a. resting a (set b i v)) (cond c [] (Booked (t .arrival) (p .booked) (p .displayed) (t .remaining) ∷ []))
+          states true h = tt
+          states false h = (omega (arith, h), tt)
+
           beyond : (k : ℕ) → Live (at b k) → side-of (at b k) ≡ flip (side-of t) → Past (side-of t) (p .booked) (at b k .booked)
           beyond k n s = elim (past-or-ok (side-of t) (p .booked) (at b k .booked)) [
             | inl y ↦ y
@@ -293,6 +268,7 @@ module _ (e : Bests) (R : ℕ → Bool) (look : ℕ → Terms) where
           nothing-away = λ a. omega (arith, away-++ a (d .out) (r .out), trade-away e a n t b, s .nothing-away a);
           nothing-new = no-news-++ (d .out) (r .out) (trade-news e n t b) (s .nothing-new);
           fair = all-append (Fair e look) (d .out) (r .out) (trade-fair e look n t b known held) (s .fair);
+          stated = λ none. states-++ (λ a. resting a (r .book)) (d .out) (r .out) (trade-states e _ n t b) (s .stated (omega (arith, none, resting-lower (u .arrival) b (d .book) long low, ap (λ x. resting x b) arrived)));
           quiet = λ a p ne. latest-++ a p (d .out) (r .out) ∙ ap (λ x. latest a x (r .out)) (trade-latest e a p n t b) ∙ s .quiet a p (λ z. ne (z ∙ arrived));
           shows = λ l. latest-++ (t .arrival) (prices-of old) (d .out) (r .out) ∙ ap (λ x. latest (t .arrival) x (r .out)) (trade-latest e (t .arrival) (prices-of old) n t b)
               ∙ ap (λ x. latest x (prices-of old) (r .out)) (sym arrived) ∙ s .shows l;

@@ -22,7 +22,7 @@ use Rattle.rules.specs.Routing.{total}
 use Rattle.rules.specs.Resting.{Out, Turned, turn, fresh, enter}
 use Rattle.rules.specs.Quoting.{quote}
 use Rattle.rules.specs.Sizes.{share, part, resting, filled, away, cancelled, latest, news}
-use Rattle.rules.specs.Law.{Fair}
+use Rattle.rules.specs.Law.{Fair, States-rest}
 use Rattle.trading_laws.specs.Books.{Holds, Held, Settled, Clear, Distinct, Numbered, Most, Clean, Low, Stems}
 
 -- routing, or sending nothing
@@ -45,8 +45,10 @@ pub record After (e : Bests) (look : ℕ → Terms) (send : Order → List Slip)
   pub sent : (n : ℕ) × (n ≤ t .remaining) × (r .slips ≡ send (with-rem t n))
   pub nothing-away : (a : ℕ) → away a (r .out) ≡ 0
   pub nothing-new : news (r .out) ≡ []
-  -- every fill is at a price that both orders and the away best allow
+  -- every fill is of a buy with a sell, at a price that both orders and the away best allow
   pub fair : All (Fair e look) (r .out)
+  -- where no other order has its number, its booking states what rests of it
+  pub stated : resting (t .arrival) b ≡ 0 → States-rest (λ a. resting a (r .book)) (r .out)
   -- only t is booked, and where it rests its prices are those of its last booking
   pub quiet : (a : ℕ) (p : Prices) → a ≢ t .arrival → latest a p (r .out) ≡ p
   pub shows : Live (at (r .book) i) → latest (t .arrival) (prices-of old) (r .out) ≡ prices-of (at (r .book) i)
@@ -65,6 +67,7 @@ pub record Entered (e : Bests) (look : ℕ → Terms) (send : Order → List Sli
   pub nothing-away : (a : ℕ) → away a (r .out) ≡ 0
   pub announces : news (r .out) ≡ (suc n, t .id) ∷ []
   pub fair : All (Fair e look) (r .out)
+  pub stated : States-rest (λ a. resting a (r .book)) (r .out)
   pub quiet : (a : ℕ) (p : Prices) → a ≢ suc n → latest a p (r .out) ≡ p
   -- `was` has the prices of each order by its last booking before
   pub shows : (was : ℕ → Prices) → was (suc n) ≡ prices-of free → ((j : ℕ) → Live (at b j) → was (at b j .arrival) ≡ prices-of (at b j)) → (j : ℕ) → Live (at (r .book) j) → latest (at (r .book) j .arrival) (was (at (r .book) j .arrival)) (r .out) ≡ prices-of (at (r .book) j)
@@ -81,6 +84,7 @@ pub record Told (e : Bests) (look : ℕ → Terms) (a : ℕ) (old b : List Order
   pub nothing-away : (x : ℕ) → away x (r .out) ≡ 0
   pub nothing-new : news (r .out) ≡ []
   pub fair : All (Fair e look) (r .out)
+  pub stated : States-rest (λ x. resting x (r .book)) (r .out)
   pub quiet : (x : ℕ) (p : Prices) → ((j : ℕ) → Live (at b j) → at b j .arrival ≢ x) → latest x p (r .out) ≡ p
   pub shows : (j : ℕ) (p : Prices) → Live (at (r .book) j) → (at b j .arrival ≤ a → p ≡ prices-of (at b j)) → (a < at b j .arrival → p ≡ prices-of (at old j)) → latest (at b j .arrival) p (r .out) ≡ prices-of (at (r .book) j)
 

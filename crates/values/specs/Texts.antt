@@ -45,18 +45,7 @@ capital (letter.Unlisted c) = c
 
 -- a letter field as it is written; every capital is its own byte
 abbrev pub letter-text : Letter → List ℕ
-letter-text letter.P = 80 ∷ []
-letter-text letter.M = 77 ∷ []
-letter-text letter.N = 78 ∷ []
-letter-text letter.B = 66 ∷ []
-letter-text letter.S = 83 ∷ []
-letter-text letter.C = 67 ∷ []
-letter-text letter.L = 76 ∷ []
-letter-text letter.I = 73 ∷ []
-letter-text letter.K = 75 ∷ []
-letter-text letter.R = 82 ∷ []
-letter-text letter.D = 68 ∷ []
-letter-text (letter.Unlisted c) = encode c
+letter-text l = encode (capital l)
 
 -- a tab, a letter, and what follows
 abbrev pub lettered : Letter → List ℕ → List ℕ

@@ -6,7 +6,7 @@ ghost use Rattle.std.specs.Of.String.{string-bytes};
 ghost use Rattle.std.specs.Vec.{made};
 ghost use Rattle.std.specs.declared.option.Option.the-variants.{Some};
 ghost use Rattle.values.specs.Codes.{number-of};
-ghost use Rattle.values.specs.Texts.{letter-text, letters-text, layer-text, report-text, slip-text, fault-text, header-text, order-text, call-text, ended};
+ghost use Rattle.values.specs.Texts.{capital, letter-text, letters-text, layer-text, report-text, slip-text, fault-text, header-text, order-text, call-text, ended};
 use super::calls::Call;
 use super::calls::Header;
 use super::calls::OrderFields;
@@ -20,24 +20,34 @@ use super::terms::Letter;
 use market::board::Quote;
 use std::fmt;
 
+impl Letter {
+    // The character of a letter field.
+    pub fn capital(self) -> char
+        ensures { λ r. ⌜ r ≡ capital self ⌝ }
+    {
+        match self {
+            Letter::P => 'P',
+            Letter::M => 'M',
+            Letter::N => 'N',
+            Letter::B => 'B',
+            Letter::S => 'S',
+            Letter::C => 'C',
+            Letter::L => 'L',
+            Letter::I => 'I',
+            Letter::K => 'K',
+            Letter::R => 'R',
+            Letter::D => 'D',
+            Letter::Unlisted(c) => c,
+        }
+    }
+}
+
 pub impl fmt::Display for Letter as LetterDisplay {
     ghost shown = { λ l. Some (letter-text l) };
 
     fn fmt<W: fmt::Write>(&self, f: &mut fmt::Formatter<W>) -> fmt::Result {
-        match *self {
-            Letter::P => write!(f, "P"),
-            Letter::M => write!(f, "M"),
-            Letter::N => write!(f, "N"),
-            Letter::B => write!(f, "B"),
-            Letter::S => write!(f, "S"),
-            Letter::C => write!(f, "C"),
-            Letter::L => write!(f, "L"),
-            Letter::I => write!(f, "I"),
-            Letter::K => write!(f, "K"),
-            Letter::R => write!(f, "R"),
-            Letter::D => write!(f, "D"),
-            Letter::Unlisted(c) => write!(f, "{c}"),
-        }
+        let capital = self.capital();
+        write!(f, "{capital}")
     }
 }
 

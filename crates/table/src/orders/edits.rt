@@ -9,9 +9,9 @@ ghost use Rattle.rules.specs.Quoting.{clamp};
 ghost use Rattle.table.specs.Away.{On, clamped};
 ghost use Rattle.table.specs.Tables.{orders-in};
 use super::Orders;
-use super::tests::clamp;
-use super::tests::nothing;
-use super::tests::take_off;
+use super::place::clamp;
+use super::place::nothing;
+use super::place::take_off;
 use crate::sides::Away;
 use rules::Order;
 
@@ -30,6 +30,14 @@ impl Orders {
         ensures { λ r. ⌜ r ≡ at (orders-in (now (self .entry))) i ⌝ }
     {
         self.places[i]
+    }
+
+    // All places, as they are now.
+    pub fn all(&self) -> [Order; 64]
+        ensures all { λ r. ⌜ r ≡ orders-in (now (self .entry)) ⌝ }
+        ensures long { λ r. ⌜ length r ≡ 64 ⌝ }
+    {
+        self.places
     }
 
     // An order comes to a place; one of which nothing remains is never put.

@@ -11,12 +11,12 @@ ghost use Rattle.rules.specs.States.{named};
 ghost use Rattle.table.specs.Places.{Inside, Vacant, ahead};
 ghost use Rattle.table.specs.Tables.{orders-in};
 use super::Orders;
-use super::tests::comes_after;
-use super::tests::displays;
-use super::tests::faces;
-use super::tests::goes_before;
-use super::tests::has_id;
-use super::tests::rests;
+use super::place::comes_after;
+use super::place::displays;
+use super::place::faces;
+use super::place::goes_before;
+use super::place::has_id;
+use super::place::rests;
 use crate::sides::better;
 use values::terms::Side;
 

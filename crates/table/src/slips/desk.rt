@@ -3,7 +3,7 @@ ghost use mathlib.Core.Path.{_≡_};
 ghost use Prim.Native.Nat.{ℕ, _<_};
 ghost use lib.ListN.{length, set, replicate};
 ghost use Rattle.rules.specs.Book.{found};
-ghost use Rattle.rules.specs.Slips.{no-sent, sent-at, out, vacant, carries, is-slip, seat, vacancies, file};
+ghost use Rattle.rules.specs.Slips.{no-sent, sent-at, out, vacant, carries, is-slip, seat, vacancies, file, filed};
 ghost use Rattle.table.specs.Places.{Inside};
 ghost use Rattle.table.specs.Tables.{slips-in};
 use super::SlipsOut;
@@ -123,6 +123,15 @@ impl SlipsOut {
     {
         if let Some(i) = self.vacancy() {
             self.places[i] = Sent { slip, id };
+        }
+    }
+
+    // All of these go out, in their order.
+    pub fn file_all(&mut self, id: u32, slips: &[Slip])
+        ensures { λ _. ⌜ slips-in (now (self .exit)) ≡ filed id (now (slips .entry)) (slips-in (now (self .entry))) ⌝ }
+    {
+        for x in 0..slips.len() {
+            self.file(id, slips[x]);
         }
     }
 

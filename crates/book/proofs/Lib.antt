@@ -1,0 +1,5 @@
+pub mod Hits
+pub mod Sharing
+pub mod Room
+pub mod Turning
+pub mod Sweep

@@ -1,0 +1,4 @@
+pub mod Passing
+pub mod Books
+pub mod Rests
+pub mod Shares
