@@ -9,7 +9,7 @@ use lib.Dec.{eqb, ltb}
 use lib.ListN.{length, set}
 use Rattle.std.proofs.shelf.Lists.{getD-past}
 use Rattle.std.proofs.shelf.Tests.{ltb-true, ltb-false, cond-both, lt-ltb, le-ltb, and-parts, cases-lt}
-use Rattle.std.proofs.shelf.Sums.{sumBy-set}
+use Rattle.std.proofs.shelf.Sums.{sumBy-set, countBy-le-length}
 use Rattle.std.specs.declared.option.Option.{Option}
 use Rattle.std.specs.declared.option.Option.the-variants.{Some, None}
 use Rattle.values.specs.declared.reports.Report.{Report}
@@ -121,3 +121,7 @@ turn-spends e a n i old t left b b′ b₁ b₂ u u₁ u₂ l f g h k m s p q =
     let first : length (trade n e t b′ .out) + taken b₁ + one left ≤ taken b = rw (h, k) (leave-room e n t b b′ i l f g) in
     let then : length (settle-on a i old left b₁ .out) + taken b₂ ≤ taken b₁ + one left + one left = rw s (settle-room a i old left b₁ m) in
     omega (arith, first, then, p, q, one-most left)
+
+-- each fill but the last frees a place
+pub trade-few : (e : Bests) (n : ℕ) (t : Order) (b : List Order) → length b ≡ 64 → length (trade n e t b .out) ≤ 65
+trade-few e n t b h = omega (arith, h, trade-room e n t b, one-most t, countBy-le-length live b)

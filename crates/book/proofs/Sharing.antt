@@ -80,10 +80,10 @@ step s qs first next done i q d h e g =
       few = omega (arith, one .0, g .few, lengths);
       size = omega (arith, one .2, g .size, sumBy-append (λ (x : Slip). x .size) done (its-share s next q));
       out =
-        g .out
-        ∙ ap (λ rest. done ++ all-shares s rest next) (drop-cons qs i d h ∙ ap (λ x. x ∷ drop (suc i) qs) (sym e) ∙ ap (λ k. q ∷ drop k qs) (sym (add-one i)))
-        ∙ ap (λ rest. done ++ rest) (one-by s q (drop (i + 1) qs) next (ltb 0 (sized s next q)) refl)
-        ∙ sym (append-assoc done (its-share s next q) (all-shares s (drop (i + 1) qs) (next-slip next (sized s next q))));
+          g .out
+          ∙ ap (λ rest. done ++ all-shares s rest next) (drop-cons qs i d h ∙ ap (λ x. x ∷ drop (suc i) qs) (sym e) ∙ ap (λ k. q ∷ drop k qs) (sym (add-one i)))
+          ∙ ap (λ rest. done ++ rest) (one-by s q (drop (i + 1) qs) next (ltb 0 (sized s next q)) refl)
+          ∙ sym (append-assoc done (its-share s next q) (all-shares s (drop (i + 1) qs) (next-slip next (sized s next q))));
     }
 
 -- m contracts went to the exchange with the i-th quote

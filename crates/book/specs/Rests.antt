@@ -3,6 +3,7 @@
 --     settle-on a i old t b   t comes to rest in the place i; `old` has its prices before the call
 --     turned r                what a turn makes of the book, and reports
 --     Came r b l l′           what came out is r: the book b, and its reports at the end of the list
+--     Dealt r b l l′ m m′     the same, with its slips at the end of a second list
 use mathlib.Core.Path.{_≡_}
 use mathlib.Core.Bool.{Bool, cond, _&&_}
 use mathlib.Core.List.{List, [], _∷_}
@@ -13,6 +14,7 @@ use Rattle.std.specs.declared.option.Option.{Option}
 use Rattle.std.specs.declared.option.Option.the-variants.{Some, None}
 use Rattle.values.specs.declared.reports.Report.{Report}
 use Rattle.values.specs.declared.reports.Report.the-variants.{Booked, Cancelled}
+use Rattle.values.specs.declared.reports.Slip.{Slip}
 use Rattle.rules.specs.declared.Order.{Order}
 use Rattle.rules.specs.declared.Prices.{Prices}
 use Rattle.rules.specs.Sides.{ok, facing}
@@ -52,3 +54,8 @@ turned r = record { book = r .book; out = r .out }
 pub record Came (r : Out) (b : List Order) (l l′ : AppendList Report) : Type 0 where
   pub book : b ≡ r .book
   pub reported : Grown l (r .out) l′
+
+pub record Dealt (r : Turned) (b : List Order) (l l′ : AppendList Report) (m m′ : AppendList Slip) : Type 0 where
+  pub book : b ≡ r .book
+  pub reported : Grown l (r .out) l′
+  pub sent : Grown m (r .slips) m′

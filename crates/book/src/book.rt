@@ -6,5 +6,7 @@ pub struct Book {
     orders: Orders,
 }
 
+mod questions;
+
 // Each module below sees the private steps of those above it: turns take resting, which follows trading.
 pub mod trading;

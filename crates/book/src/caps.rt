@@ -18,6 +18,5 @@ pub fn in_cap(terms: &Terms, price: u32) -> bool
 pub fn suits(best: Bests, taker: &Order, price: u32) -> bool
     ensures { λ r. ⌜ r ≡ fits best (now (taker .entry)) price ⌝ }
 {
-    in_cap(&taker.terms, price)
-        && within(taker.terms.side, met(best, taker.terms.side), price)
+    in_cap(&taker.terms, price) && within(taker.terms.side, met(best, taker.terms.side), price)
 }

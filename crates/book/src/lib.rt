@@ -5,6 +5,7 @@ mod book;
 mod caps;
 mod monitor;
 mod routing;
+
 pub use book::Book;
 pub use book::trading::resting::entry::Entry;
 pub use monitor::Entered;

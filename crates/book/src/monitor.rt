@@ -45,7 +45,12 @@ pub struct Sight {
 fn judge(sight: Sight, kind: Kind, side: Side, limit: u32) -> Result<(Kind, u32), MonitorFault>
     ensures { λ r. ⌜ r ≡ verdict (sight .wide) (sight .lowest) (sight .national) (sight .here) kind side limit ⌝ }
 {
-    let Sight { national, here, lowest, wide } = sight;
+    let Sight {
+        national,
+        here,
+        lowest,
+        wide,
+    } = sight;
     let nbb = u64::from(national.bid);
     let nbo = u64::from(national.offer);
     let mbo = here.offer;
@@ -57,8 +62,12 @@ fn judge(sight: Sight, kind: Kind, side: Side, limit: u32) -> Result<(Kind, u32)
         (Kind::Market, _) => Ok((kind, limit)),
         (_, Side::Buy) if nbo == 0 => Ok((kind, limit)),
         (_, Side::Buy) if nbo <= 50 && price >= nbo + 25 => Err(MonitorFault::BuyTooHigh),
-        (_, Side::Buy) if nbo > 50 && (price >= nbo + 250 || 2 * price >= 3 * nbo) => Err(MonitorFault::BuyTooHigh),
-        (_, Side::Sell) if nbb > 25 && (price + 250 <= nbb || 2 * price <= nbb) => Err(MonitorFault::SellTooLow),
+        (_, Side::Buy) if nbo > 50 && (price >= nbo + 250 || 2 * price >= 3 * nbo) => Err(
+            MonitorFault::BuyTooHigh,
+        ),
+        (_, Side::Sell) if nbb > 25 && (price + 250 <= nbb || 2 * price <= nbb) => Err(
+            MonitorFault::SellTooLow,
+        ),
         (_, _) => Ok((kind, limit)),
     }
 }
@@ -66,15 +75,47 @@ fn judge(sight: Sight, kind: Kind, side: Side, limit: u32) -> Result<(Kind, u32)
 pub fn pass_monitor(order: Entered, sight: Sight) -> Result<Passed, MonitorFault>
     ensures { λ r. ⌜ r ≡ judged (verdict (sight .wide) (sight .lowest) (sight .national) (sight .here) (order .kind) (order .side) (order .limit)) order ⌝ }
 {
-    let Entered { id, firm, side, kind, limit, protection, size } = order;
+    let Entered {
+        id,
+        firm,
+        side,
+        kind,
+        limit,
+        protection,
+        size,
+    } = order;
     let (kind, limit) = judge(sight, kind, side, limit)?;
-    Ok(Passed { id, firm, side, kind, limit, protection, size })
+    Ok(Passed {
+        id,
+        firm,
+        side,
+        kind,
+        limit,
+        protection,
+        size,
+    })
 }
 
 // What a passed order is entered with; only trading asks, and takes the order.
 pub fn terms_of(passed: Passed) -> Terms
     ensures { λ r. ⌜ r ≡ terms-of passed ⌝ }
 {
-    let Passed { id, firm, side, kind, limit, protection, size } = passed;
-    Terms { id, firm, side, kind, limit, protection, size }
+    let Passed {
+        id,
+        firm,
+        side,
+        kind,
+        limit,
+        protection,
+        size,
+    } = passed;
+    Terms {
+        id,
+        firm,
+        side,
+        kind,
+        limit,
+        protection,
+        size,
+    }
 }

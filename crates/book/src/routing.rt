@@ -7,11 +7,11 @@ ghost use Rattle.rules.specs.Book.{with-rem};
 ghost use Rattle.rules.specs.Routing.{offered, shares, total, routing};
 ghost use Rattle.records.specs.Contents.{used, capacity, Grown};
 ghost use Rattle.book.specs.Shares.{share, share-size, next-slip, all-shares, goes-out};
+use crate::caps::in_cap;
 use market::board::Quote;
 use records::AppendList;
 use rules::Bests;
 use rules::Order;
-use crate::caps::in_cap;
 use table::sides::met;
 use values::reports::Slip;
 use values::terms::Side;
@@ -55,7 +55,11 @@ fn next_slip(slip: Slip, sent: u32) -> Slip
     requires { ⌜ sent ≤ slip .size ⌝ ∗ ⌜ slip .number < 16000000 ⌝ ∗ ⌜ slip .exchange < 16 ⌝ }
     ensures { λ r. ⌜ r ≡ next-slip slip sent ⌝ }
 {
-    let number = if sent > 0 { slip.number + 1 } else { slip.number };
+    let number = if sent > 0 {
+        slip.number + 1
+    } else {
+        slip.number
+    };
     Slip {
         number,
         exchange: slip.exchange + 1,

@@ -12,5 +12,5 @@ pub struct Orders {
 }
 
 mod edits;
-mod scans;
 pub mod place;
+mod scans;

@@ -19,8 +19,7 @@ use Rattle.std.specs.declared.option.Option.{Option}
 use Rattle.std.specs.declared.option.Option.the-variants.{Some, None}
 use Rattle.values.specs.declared.terms.Side.{Side}
 use Rattle.values.specs.declared.terms.Side.the-variants.{Buy, Sell}
-use Rattle.values.specs.declared.reports.Report.{Report}
-use Rattle.values.specs.declared.reports.Report.the-variants.{New, Fill, Booked, Cancelled, FilledAway}
+use Rattle.values.specs.declared.reports.Report.the-variants.{Booked}
 use Rattle.values.specs.declared.reports.Slip.{Slip}
 use Rattle.rules.specs.declared.Terms.{Terms}
 use Rattle.rules.specs.declared.Order.{Order}
@@ -32,7 +31,7 @@ use Rattle.rules.specs.Book.{free, at, live, Live, side-of, prices-of, priced, 
 use Rattle.rules.specs.Trading.{within, trade}
 use Rattle.rules.specs.Routing.{total}
 use Rattle.rules.specs.Resting.{Out, rest-at, settle, turn}
-use Rattle.rules.specs.Sizes.{share, part, resting, filled, away, cancelled, showing, latest, news}
+use Rattle.rules.specs.Sizes.{share, part, resting, filled, away, cancelled, latest, news}
 use Rattle.rules.specs.Law.{Fair, States-rest}
 use Rattle.rules.proofs.Rungs.{behind-unlocked, beneath-less, above-more}
 use Rattle.trading_laws.specs.Books.{Fits, Holds, Held, Settled, Apart, Clear, Most, Clean, Low}

@@ -8,10 +8,11 @@ use Rattle.book.proofs.routing.share_out.Needs as need
 
 pub loop-x-again : need.loop-x-again
 loop-x-again c =
-    let inv = c .loop-x .inv in
-    (_,
+    let inv = c .loop-x .inv in (
+      _,
       grown-more _ _ _ _ _ (inv .1) (c .send-one-sent .ensures .slips),
-      going-on _ (c .args .quotes .now) _ _ _ (inv .0) (c .loop-x .x) _ _ (search needs) (c .send-one-sent .ensures .taken) (c .next-slip-next .ensures) (inv .2))
+      going-on _ (c .args .quotes .now) _ _ _ (inv .0) (c .loop-x .x) _ _ (search needs) (c .send-one-sent .ensures .taken) (c .next-slip-next .ensures) (inv .2),
+    )
 
 pub returns : need.returns
 returns c =

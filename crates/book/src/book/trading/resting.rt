@@ -25,7 +25,12 @@ use values::reports::Report;
 fn rest_at(away: Away, order: &Order) -> Option<Prices>
     ensures { λ r. ⌜ r ≡ rest-on away (now (order .entry)) ⌝ }
 {
-    let Terms { side, limit, protection, .. } = order.terms;
+    let Terms {
+        side,
+        limit,
+        protection,
+        ..
+    } = order.terms;
     let best = met(away.best, side);
     if best > 0 && in_cap(&order.terms, best) {
         Some(Prices {

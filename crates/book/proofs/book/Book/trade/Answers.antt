@@ -29,10 +29,11 @@ fill-one-requires c κs =
 pub loop-fills-again : need.loop-fills-again
 loop-fills-again c =
     let inv = c .loop-fills .inv in
-    let n = length (orders-of (c .args .self .now)) in
-    (inv .0 ++ _ ∷ [],
+    let n = length (orders-of (c .args .self .now)) in (
+      inv .0 ++ _ ∷ [],
       grown-more _ _ _ _ _ (inv .1) (c .fill-one .ensures .reported),
-      left-goes _ _ _ _ _ _ (inv .0) (n - c .loop-fills .fills) (n - (c .loop-fills .fills + 1)) (c .in-Some .i) (search needs) (c .in-Some .ensures tt .hit) (c .fill-one .ensures .taker) (c .fill-one .ensures .book) (inv .2))
+      left-goes _ _ _ _ _ _ (inv .0) (n - c .loop-fills .fills) (n - (c .loop-fills .fills + 1)) (c .in-Some .i) (search needs) (c .in-Some .ensures tt .hit) (c .fill-one .ensures .taker) (c .fill-one .ensures .book) (inv .2),
+    )
 
 pub returns : need.returns
 returns c =

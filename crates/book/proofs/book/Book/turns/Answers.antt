@@ -22,13 +22,16 @@ returns-in-None c R on =
 pub loop-had-again : need.loop-had-again
 loop-had-again c =
     let n = length (orders-of (c .args .self .now)) in
-    let its = c .turn .ensures in
-    (search needs, its .room ∙ c .loop-had .inv .1,
+    let its = c .turn .ensures in (
+      search needs,
+      its .room ∙ c .loop-had .inv .1,
       λ R on.
-      let inv = c .loop-had .inv .2 R on in
-      (_,
-        grown-more _ _ _ _ _ (inv .1) (its .turned R on .reported),
-        sweeps-on _ R _ _ _ _ _ _ (inv .0) (n - c .loop-had .had) (n - (c .loop-had .had + 1)) (c .in-Some .i) (search needs) (c .in-Some .ensures tt .next) (search needs) (its .turned R on .book) (inv .2)))
+          let inv = c .loop-had .inv .2 R on in (
+            _,
+            grown-more _ _ _ _ _ (inv .1) (its .turned R on .reported),
+            sweeps-on _ R _ _ _ _ _ _ (inv .0) (n - c .loop-had .had) (n - (c .loop-had .had + 1)) (c .in-Some .i) (search needs) (c .in-Some .ensures tt .next) (search needs) (its .turned R on .book) (inv .2),
+          ),
+    )
 
 pub returns : need.returns
 returns c R on =

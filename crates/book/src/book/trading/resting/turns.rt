@@ -19,13 +19,7 @@ use values::reports::Report;
 
 impl Book {
     // The order at this place has its turn; `before` has its prices before the call. It is never routed.
-    fn turn(
-        &mut self,
-        away: Away,
-        i: usize,
-        before: &Order,
-        reports: &mut AppendList<'_, Report>,
-    )
+    fn turn(&mut self, away: Away, i: usize, before: &Order, reports: &mut AppendList<'_, Report>)
         requires { ⌜ i < 64 ⌝ ∗ ⌜ Live (at (orders-of (now self)) i) ⌝ ∗ ⌜ used (now reports) + taken (orders-of (now self)) + 1 ≤ capacity (now reports) ⌝ }
         ensures turned { λ _. ⌜ ((R : ℕ → Bool) → On R away → Came (turned (turn (away .best) R nowhere i (now (before .entry)) (at (orders-of (now (self .entry))) i) (set (orders-of (now (self .entry))) i free))) (orders-of (now (self .exit))) (now (reports .entry)) (now (reports .exit))) ⌝ }
         ensures spent { λ _. ⌜ used (now (reports .exit)) + taken (orders-of (now (self .exit))) ≤ used (now (reports .entry)) + taken (orders-of (now (self .entry))) + 1 ⌝ }
