@@ -1,0 +1,5 @@
+pub mod States
+pub mod Rows
+pub mod Calls
+pub mod Entry
+pub mod Runs
