@@ -10,4 +10,4 @@ loop-i-preserved g c =
     let law = g.met.L.Ladder in
     let low = bottom_lowest R c.lowest-lowest.result (law.none s) (law.most s) c.lowest-lowest.ensures in
     let step = step_below R c.loop-i.at c.lowest-lowest.result c.below.result low c.below.ensures in
-    c.unwrap-or-at.ensures ∙ sym step ∙ ap (last_below R) c.loop-i.invariant ∙ ap (λ k. descended R k c.args.from) (sym (add-one c.loop-i.-i))
+    c.unwrap_or-at.ensures ∙ sym step ∙ ap (last_below R) c.loop-i.invariant ∙ ap (λ k. descended R k c.args.from) (sym (add-one c.loop-i._i))

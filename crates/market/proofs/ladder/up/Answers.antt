@@ -9,4 +9,4 @@ loop-i-preserved g c =
     let R = g.L.Ladder.rung s in
     let law = g.met.L.Ladder in
     let step = step_above R c.loop-i.at c.above.result (law.top s) (law.most s) c.above.ensures in
-    c.unwrap-or-at.ensures ∙ sym step ∙ ap (step_up R) c.loop-i.invariant ∙ ap (λ k. climbed R k c.args.from) (sym (add-one c.loop-i.-i))
+    c.unwrap_or-at.ensures ∙ sym step ∙ ap (step_up R) c.loop-i.invariant ∙ ap (λ k. climbed R k c.args.from) (sym (add-one c.loop-i._i))

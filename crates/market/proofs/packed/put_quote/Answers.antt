@@ -8,5 +8,5 @@ returns c =
       there = search rules;
       before = search rules;
       after = search rules;
-      exact = four_words c.args.bytes.now _ _ _ _ c.args.at c.args.quote c.requires c.put-word.ensures.exact c.put-word-2.ensures.exact c.put-word-3.ensures.exact c.put-word-4.ensures.exact;
+      exact = four_words c.args.bytes.now _ _ _ _ c.args.at c.args.quote c.requires c.put_word.ensures.exact c.put_word-2.ensures.exact c.put_word-3.ensures.exact c.put_word-4.ensures.exact;
     }

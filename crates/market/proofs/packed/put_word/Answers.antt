@@ -9,5 +9,5 @@ returns c =
       there = search rules;
       before = search rules;
       after = search rules;
-      exact = four_sets c.args.bytes.now c.args.at _ _ _ _ c.requires ∙ ap (λ r. overwritten c.args.bytes.now c.args.at (get_or r 0 0 ∷ get_or r 1 0 ∷ get_or r 2 0 ∷ get_or r 3 0 ∷ [])) c.to-be-bytes.ensures;
+      exact = four_sets c.args.bytes.now c.args.at _ _ _ _ c.requires ∙ ap (λ r. overwritten c.args.bytes.now c.args.at (get_or r 0 0 ∷ get_or r 1 0 ∷ get_or r 2 0 ∷ get_or r 3 0 ∷ [])) c.to_be_bytes.ensures;
     }
