@@ -7,8 +7,7 @@ ghost use Rattle.boundary.specs.Handing.{Hands, Placed};
 
 use day::put_day;
 use lines::records::INPUT_LIMIT;
-use std::alloc::Global;
-use std::fmt;
+use std::alloc::{AllocError, Global};
 
 // What the number that comes back says.
 pub const DONE: u32 = 0;
@@ -20,7 +19,7 @@ pub const BUFFER_TOO_SMALL: u32 = 2;
 pub const OUT_OF_MEMORY: u32 = 3;
 
 // The day's answer, in memory of its own.
-fn answered(heap: Global, input: &[u8]) -> Result<String, fmt::Error>
+fn answered(heap: Global, input: &[u8]) -> Result<String, AllocError>
     ensures { IfOk result (λ s. Writes input.now (string_bytes s)) }
 {
     let mut out = String::new(heap);

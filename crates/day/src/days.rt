@@ -14,7 +14,7 @@ use market::ladder::Ladder;
 use market::table::TableBoard;
 use records::AppendList;
 use series::Series;
-use std::fmt;
+use std::alloc::AllocError;
 use values::faults::{Fault, LineFault};
 use values::reports::{Report, Slip};
 use values::texts::{put_fault, put_reports, put_slips};
@@ -34,7 +34,7 @@ fn answer<L: Ladder + Drop, B: Board + Drop>(
     reports: &mut [Report],
     slips: &mut [Slip],
     line: &[u8],
-) -> fmt::Result
+) -> Result<(), AllocError>
     requires { (length reports.old ≡ 128) × (length slips.old ≡ 15) }
     ensures value { OnOk result ((o : Outcome) × Fits line.now o × (string_bytes out.new ≡ string_bytes out.old ++ text o) × Moves (L.Ladder.rung series.old.ladder) (stands B.Board.quotes series.old) o (stands B.Board.quotes series.new)) }
     ensures ladder { series.new.ladder ≡ series.old.ladder }
@@ -59,7 +59,7 @@ fn answer_all<L: Ladder + Drop, B: Board + Drop>(
     out: &mut String,
     series: &mut Series<L, B>,
     mut lines: Records,
-) -> fmt::Result
+) -> Result<(), AllocError>
     ensures value { OnOk result ((b : List ℕ) × (string_bytes out.new ≡ string_bytes out.old ++ b) × Answered (L.Ladder.rung series.old.ladder) (stands B.Board.quotes series.old) (lines_of lines.entry.rest.now) b (stands B.Board.quotes series.new)) }
     ensures ladder { series.new.ladder ≡ series.old.ladder }
 {
@@ -78,7 +78,7 @@ fn answer_all<L: Ladder + Drop, B: Board + Drop>(
 }
 
 // A new series takes the calls of the day.
-fn put_calls(out: &mut String, settings: Settings, lines: Records) -> fmt::Result
+fn put_calls(out: &mut String, settings: Settings, lines: Records) -> Result<(), AllocError>
     ensures { OnOk result ((b : List ℕ) × (string_bytes out.new ≡ string_bytes out.old ++ b) × Day (rungs_of settings.ladder) settings.wide (lines_of lines.entry.rest.now) b) }
 {
     let mut series = Series::new(settings.ladder, TableBoard::new(), settings.wide);
@@ -86,7 +86,7 @@ fn put_calls(out: &mut String, settings: Settings, lines: Records) -> fmt::Resul
 }
 
 // Everything that is written for an input: nothing for none, one fault for too long a one or for a first line that is refused.
-pub fn put_day(out: &mut String, input: &[u8]) -> fmt::Result
+pub fn put_day(out: &mut String, input: &[u8]) -> Result<(), AllocError>
     ensures { OnOk result ((b : List ℕ) × (string_bytes out.new ≡ string_bytes out.old ++ b) × Writes input.now b) }
 {
     if input.len() > INPUT_LIMIT {

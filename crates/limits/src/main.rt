@@ -7,7 +7,7 @@ use market::packed::PackedBoard;
 use market::table::TableBoard;
 use records::AppendList;
 use series::Series;
-use std::fmt;
+use std::alloc::AllocError;
 use std::io::Write;
 use values::calls::{Call, OrderFields};
 use values::faults::Fault;
@@ -58,7 +58,7 @@ fn ask<L: Ladder + Drop, B: Board + Drop>(
     series: &mut Series<L, B>,
     call: Call,
     room: Room,
-) -> fmt::Result {
+) -> Result<(), AllocError> {
     let places = room.reports.min(128);
     let slip_places = room.slips.min(15);
     writeln!(out, "{call} with room for {places} and {slip_places}")?;
@@ -76,7 +76,7 @@ fn ask<L: Ladder + Drop, B: Board + Drop>(
 }
 
 // Each call but the opening wants 128 places for reports, and an order 15 for slips.
-fn put_rooms(out: &mut String) -> fmt::Result {
+fn put_rooms(out: &mut String) -> Result<(), AllocError> {
     let mut series = Series::new(AnyLadder::Cents, TableBoard::new(), false);
     let quote = Quote {
         bid: 99,
@@ -128,7 +128,7 @@ fn enter_and_cancel<L: Ladder + Drop, B: Board + Drop>(
 }
 
 // The millionth order is accepted, and no later one.
-fn put_arrivals(out: &mut String) -> fmt::Result {
+fn put_arrivals(out: &mut String) -> Result<(), AllocError> {
     let mut series = Series::new(AnyLadder::Cents, TableBoard::new(), false);
     ask(out, &mut series, Call::Open, FULL)?;
     let accepted = enter_and_cancel(&mut series, 999_999);
@@ -137,7 +137,7 @@ fn put_arrivals(out: &mut String) -> fmt::Result {
     ask(out, &mut series, buy(8), FULL)
 }
 
-fn put_board(out: &mut String, memory: &mut [u8]) -> fmt::Result {
+fn put_board(out: &mut String, memory: &mut [u8]) -> Result<(), AllocError> {
     match PackedBoard::new(memory) {
         Ok(_) => Ok(()),
         Err(fault) => put_fault(out, Fault::Board(fault)),
@@ -145,7 +145,7 @@ fn put_board(out: &mut String, memory: &mut [u8]) -> fmt::Result {
 }
 
 // So many bytes, at most 300, offered as a board's memory, and how many of them were written.
-fn put_memory(out: &mut String, length: usize) -> fmt::Result {
+fn put_memory(out: &mut String, length: usize) -> Result<(), AllocError> {
     let mut memory = [7u8; 300];
     let end = length.min(300);
     put_board(out, &mut memory[0..end])?;

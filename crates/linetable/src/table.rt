@@ -7,7 +7,7 @@ use checks::calls::{check_call, check_header};
 use lines::calls::{read_call, read_header};
 use lines::records::{INPUT_LIMIT, Records};
 use market::any::AnyLadder;
-use std::fmt;
+use std::alloc::AllocError;
 use values::calls::{Call, Header};
 use values::faults::{Fault, LineFault};
 
@@ -70,7 +70,7 @@ fn judge(stage: Stage, line: &[u8]) -> (Answer, Stage)
     }
 }
 
-fn tell(out: &mut String, answer: Answer) -> fmt::Result
+fn tell(out: &mut String, answer: Answer) -> Result<(), AllocError>
     ensures { OnOk result (string_bytes out.new ≡ string_bytes out.old ++ told answer) }
 {
     match answer {
@@ -82,7 +82,7 @@ fn tell(out: &mut String, answer: Answer) -> fmt::Result
     }
 }
 
-fn judge_all(out: &mut String, input: &[u8]) -> fmt::Result
+fn judge_all(out: &mut String, input: &[u8]) -> Result<(), AllocError>
     ensures { OnOk result (string_bytes out.new ≡ string_bytes out.old ++ table Stage.First (lines_of input.now)) }
 {
     let mut stage = Stage::First;
@@ -96,7 +96,7 @@ fn judge_all(out: &mut String, input: &[u8]) -> fmt::Result
 }
 
 // Writes the answer to every line of a table, or that it is too long to be read.
-pub fn judge_table(out: &mut String, input: &[u8]) -> fmt::Result
+pub fn judge_table(out: &mut String, input: &[u8]) -> Result<(), AllocError>
     ensures { OnOk result (string_bytes out.new ≡ string_bytes out.old ++ answered input.now) }
 {
     if input.len() <= INPUT_LIMIT {

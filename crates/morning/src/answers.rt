@@ -5,6 +5,7 @@ ghost use Rattle.lines.specs.Inputs.{lines_of};
 ghost use Rattle.morning.specs.Mornings.{taken, after};
 ghost use Rattle.morning.specs.Answers.{Answer, Over, Morning};
 
+use std::alloc::AllocError;
 use super::taking::{Taken, start, take};
 use super::text::{put_bytes, put_fault, put_passed_over, put_quote, put_tops};
 use super::tops::top;
@@ -14,7 +15,6 @@ use market::board::Board;
 use market::ladder::Ladder;
 use market::packed::PackedBoard;
 use market::table::TableBoard;
-use std::fmt;
 use values::faults::{Fault, LineFault};
 
 // A line's answer: the exchange's quote and the top of the away market, that it is passed over, or its fault.
@@ -24,7 +24,7 @@ fn answer<L: Ladder, X: Board, Y: Board>(
     one: &mut X,
     other: &mut Y,
     line: &[u8],
-) -> fmt::Result
+) -> Result<(), AllocError>
     ensures value { OnOk result ((b : List ℕ) × (string_bytes out.new ≡ string_bytes out.old ++ b) × Answer (L.Ladder.rung ladder.now) (X.Board.quotes one.old) (taken (L.Ladder.rung ladder.now) line.now) b) }
     ensures one { X.Board.quotes one.new ≡ after (X.Board.quotes one.old) (taken (L.Ladder.rung ladder.now) line.now) }
     ensures other { Y.Board.quotes other.new ≡ after (Y.Board.quotes other.old) (taken (L.Ladder.rung ladder.now) line.now) }
@@ -61,7 +61,7 @@ fn answer_all(
     ladder: &AnyLadder,
     memory: &mut [u8],
     mut lines: Records,
-) -> fmt::Result
+) -> Result<(), AllocError>
     ensures value { OnOk result ((b : List ℕ) × (string_bytes out.new ≡ string_bytes out.old ++ b) × Over (length memory.old) (rungs_of ladder.now) (lines_of lines.entry.rest.now) b) }
 {
     let mut table = TableBoard::new();
@@ -77,7 +77,7 @@ fn answer_all(
 }
 
 // Everything that is written for an input: nothing for none, one fault for too long a one or for a first line that is refused.
-pub fn put_morning(out: &mut String, input: &[u8], memory: &mut [u8]) -> fmt::Result
+pub fn put_morning(out: &mut String, input: &[u8], memory: &mut [u8]) -> Result<(), AllocError>
     ensures { OnOk result ((b : List ℕ) × (string_bytes out.new ≡ string_bytes out.old ++ b) × Morning (length memory.old) input.now b) }
 {
     if input.len() > INPUT_LIMIT {

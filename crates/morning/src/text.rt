@@ -3,6 +3,7 @@ ghost use Rattle.std.specs.Prelude.{◌≡◌, ◌<◌, ◌++◌, Some, string_b
 ghost use Rattle.values.specs.Texts.{ended, fault_text};
 ghost use Rattle.morning.specs.Words.{side_text, rung_text, quote_line, top_line, passed_line, hex_digit, byte_text, dump_from};
 
+use std::alloc::AllocError;
 use super::tops::Tops;
 use market::board::Quote;
 use std::fmt;
@@ -52,7 +53,7 @@ impl fmt::Display for Next {
 }
 
 // What an exchange quotes.
-pub fn put_quote(out: &mut String, exchange: u32, quote: Quote) -> fmt::Result
+pub fn put_quote(out: &mut String, exchange: u32, quote: Quote) -> Result<(), AllocError>
     ensures { OnOk result (string_bytes out.new ≡ string_bytes out.old ++ quote_line exchange quote) }
 {
     let bid = Shown {
@@ -69,7 +70,7 @@ pub fn put_quote(out: &mut String, exchange: u32, quote: Quote) -> fmt::Result
 }
 
 // The best of each side with its size and the rung next to it.
-pub fn put_tops(out: &mut String, tops: Tops) -> fmt::Result
+pub fn put_tops(out: &mut String, tops: Tops) -> Result<(), AllocError>
     ensures { OnOk result (string_bytes out.new ≡ string_bytes out.old ++ top_line tops) }
 {
     let bid = Shown {
@@ -105,7 +106,7 @@ fn hex_digit(n: u8) -> char
 }
 
 // A byte as two digits, and a blank or, after sixteen bytes, the end of the line.
-fn put_byte(out: &mut String, place: usize, byte: u8) -> fmt::Result
+fn put_byte(out: &mut String, place: usize, byte: u8) -> Result<(), AllocError>
     ensures { OnOk result (string_bytes out.new ≡ string_bytes out.old ++ byte_text place byte) }
 {
     let high = hex_digit(byte / 16);
@@ -118,7 +119,7 @@ fn put_byte(out: &mut String, place: usize, byte: u8) -> fmt::Result
 }
 
 // Sixteen bytes to a line.
-pub fn put_bytes(out: &mut String, bytes: &[u8]) -> fmt::Result
+pub fn put_bytes(out: &mut String, bytes: &[u8]) -> Result<(), AllocError>
     ensures { OnOk result (string_bytes out.new ≡ string_bytes out.old ++ dump_from 0 bytes.now) }
 {
     for i in 0..bytes.len() {
@@ -128,13 +129,13 @@ pub fn put_bytes(out: &mut String, bytes: &[u8]) -> fmt::Result
 }
 
 // A call that says nothing of the away market.
-pub fn put_passed_over(out: &mut String, call: Call) -> fmt::Result
+pub fn put_passed_over(out: &mut String, call: Call) -> Result<(), AllocError>
     ensures { OnOk result (string_bytes out.new ≡ string_bytes out.old ++ passed_line call) }
 {
     writeln!(out, "passed over: {call}")
 }
 
-pub fn put_fault(out: &mut String, fault: Fault) -> fmt::Result
+pub fn put_fault(out: &mut String, fault: Fault) -> Result<(), AllocError>
     ensures { OnOk result (string_bytes out.new ≡ string_bytes out.old ++ ended fault_text fault) }
 {
     writeln!(out, "{fault}")

@@ -19,7 +19,7 @@ use market::ladder::Ladder;
 use market::table::TableBoard;
 use records::AppendList;
 use series::Series;
-use std::fmt;
+use std::alloc::AllocError;
 use values::faults::Fault;
 use values::reports::{Report, Slip};
 
@@ -30,7 +30,7 @@ fn tell_line<L: Ladder + Drop, B: Board + Drop>(
     reports: &mut [Report],
     slips: &mut [Slip],
     line: &[u8],
-) -> fmt::Result
+) -> Result<(), AllocError>
     requires { (length reports.old ≡ 128) × (length slips.old ≡ 15) }
     ensures value { OnOk result ((o : Outcome) × Fits line.now o × (string_bytes out.new ≡ string_bytes out.old ++ tell line.now o) × Moves (L.Ladder.rung series.old.ladder) (stands B.Board.quotes series.old) o (stands B.Board.quotes series.new)) }
     ensures ladder { series.new.ladder ≡ series.old.ladder }
@@ -52,7 +52,7 @@ fn tell_all<L: Ladder + Drop, B: Board + Drop>(
     out: &mut String,
     series: &mut Series<L, B>,
     mut lines: Records,
-) -> fmt::Result
+) -> Result<(), AllocError>
     ensures value { OnOk result ((b : List ℕ) × (string_bytes out.new ≡ string_bytes out.old ++ b) × Told (L.Ladder.rung series.old.ladder) (stands B.Board.quotes series.old) (lines_of lines.entry.rest.now) b (stands B.Board.quotes series.new)) }
     ensures ladder { series.new.ladder ≡ series.old.ladder }
 {
@@ -71,14 +71,14 @@ fn tell_all<L: Ladder + Drop, B: Board + Drop>(
 }
 
 // A new series takes the calls of the day.
-fn tell_calls(out: &mut String, settings: Settings, lines: Records) -> fmt::Result
+fn tell_calls(out: &mut String, settings: Settings, lines: Records) -> Result<(), AllocError>
     ensures { OnOk result ((b : List ℕ) × (string_bytes out.new ≡ string_bytes out.old ++ b) × TellsDay (rungs_of settings.ladder) settings.wide (lines_of lines.entry.rest.now) b) }
 {
     let mut series = Series::new(settings.ladder, TableBoard::new(), settings.wide);
     tell_all(out, &mut series, lines)
 }
 
-fn tell_day(out: &mut String, settings: Settings, lines: Records) -> fmt::Result
+fn tell_day(out: &mut String, settings: Settings, lines: Records) -> Result<(), AllocError>
     ensures { OnOk result ((b : List ℕ) × (string_bytes out.new ≡ string_bytes out.old ++ (settled settings ++ b)) × TellsDay (rungs_of settings.ladder) settings.wide (lines_of lines.entry.rest.now) b) }
 {
     put_settled(out, settings)?;
@@ -86,7 +86,7 @@ fn tell_day(out: &mut String, settings: Settings, lines: Records) -> fmt::Result
 }
 
 // Everything that is told of an input: a line of text for each of its lines, or that it is too long.
-pub fn put_telling(out: &mut String, input: &[u8]) -> fmt::Result
+pub fn put_telling(out: &mut String, input: &[u8]) -> Result<(), AllocError>
     ensures { OnOk result ((b : List ℕ) × (string_bytes out.new ≡ string_bytes out.old ++ b) × Tells input.now b) }
 {
     if input.len() > INPUT_LIMIT {

@@ -5,7 +5,7 @@ ghost use Rattle.std.specs.List.{flat_map};
 ghost use Rattle.lines.specs.Words.{fields};
 ghost use Rattle.telling.specs.Fields.{visible, numbered, field_of};
 
-use std::fmt;
+use std::alloc::AllocError;
 use values::faults::{CheckFault, Fault, LineFault};
 
 // Where the first tab stands, or the length.
@@ -50,21 +50,21 @@ pub fn field_of(fault: Fault) -> Option<u32>
     }
 }
 
-fn put_printed(out: &mut String, byte: u8) -> fmt::Result
+fn put_printed(out: &mut String, byte: u8) -> Result<(), AllocError>
     ensures { OnOk result (string_bytes out.new ≡ string_bytes out.old ++ encode byte) }
 {
     let printed = char::from(byte);
     write!(out, "{printed}")
 }
 
-fn put_number(out: &mut String, byte: u8) -> fmt::Result
+fn put_number(out: &mut String, byte: u8) -> Result<(), AllocError>
     ensures { OnOk result (string_bytes out.new ≡ string_bytes out.old ++ numbered byte) }
 {
     write!(out, "<{byte}>")
 }
 
 // A byte that can be printed as it is, any other as its number.
-fn put_byte(out: &mut String, byte: u8) -> fmt::Result
+fn put_byte(out: &mut String, byte: u8) -> Result<(), AllocError>
     ensures { OnOk result (string_bytes out.new ≡ string_bytes out.old ++ visible byte) }
 {
     if b' ' <= byte && byte <= b'~' {
@@ -84,7 +84,7 @@ fn shown(bytes: &[u8]) -> &[u8]
     &bytes[0..80]
 }
 
-fn put_all(out: &mut String, bytes: &[u8]) -> fmt::Result
+fn put_all(out: &mut String, bytes: &[u8]) -> Result<(), AllocError>
     ensures { OnOk result (string_bytes out.new ≡ string_bytes out.old ++ flat_map visible bytes.now) }
 {
     for byte in bytes {
@@ -93,7 +93,7 @@ fn put_all(out: &mut String, bytes: &[u8]) -> fmt::Result
     Ok(())
 }
 
-pub fn put_shown(out: &mut String, bytes: &[u8]) -> fmt::Result
+pub fn put_shown(out: &mut String, bytes: &[u8]) -> Result<(), AllocError>
     ensures { OnOk result (string_bytes out.new ≡ string_bytes out.old ++ flat_map visible (take 80 bytes.now)) }
 {
     put_all(out, shown(bytes))

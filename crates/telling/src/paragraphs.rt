@@ -8,32 +8,32 @@ ghost use Rattle.phrases.specs.Refusals.{fault_words};
 ghost use Rattle.telling.specs.Fields.{field_of, field_part, place_words, at_field};
 ghost use Rattle.telling.specs.Paragraphs.{closing, done, number_words, refusal, ladder_words, width_words, settings_words, settled, unsettled, too_long};
 
+use std::alloc::AllocError;
 use super::fields::{field_after, field_of, put_shown};
 use checks::checked::Settings;
 use market::any::AnyLadder;
 use phrases::asked::Asked;
 use phrases::names::{FieldName, field_named};
 use phrases::refusals::Meaning;
-use std::fmt;
 use values::calls::Call;
 use values::faults::Fault;
 use values::reports::{Report, Slip};
 use words::answers::{Reported, SentAway};
 
-fn put_text(out: &mut String, text: &str) -> fmt::Result
+fn put_text(out: &mut String, text: &str) -> Result<(), AllocError>
     ensures { OnOk result (string_bytes out.new ≡ string_bytes out.old ++ text.now) }
 {
     write!(out, "{text}")
 }
 
-fn put_report(out: &mut String, report: Report) -> fmt::Result
+fn put_report(out: &mut String, report: Report) -> Result<(), AllocError>
     ensures { OnOk result (string_bytes out.new ≡ string_bytes out.old ++ report_words report) }
 {
     let reported = Reported(report);
     write!(out, "{reported}")
 }
 
-fn put_reports(out: &mut String, reports: &[Report]) -> fmt::Result
+fn put_reports(out: &mut String, reports: &[Report]) -> Result<(), AllocError>
     ensures { OnOk result (string_bytes out.new ≡ string_bytes out.old ++ flat_map report_words reports.now) }
 {
     for report in reports {
@@ -42,14 +42,14 @@ fn put_reports(out: &mut String, reports: &[Report]) -> fmt::Result
     Ok(())
 }
 
-fn put_slip(out: &mut String, slip: Slip) -> fmt::Result
+fn put_slip(out: &mut String, slip: Slip) -> Result<(), AllocError>
     ensures { OnOk result (string_bytes out.new ≡ string_bytes out.old ++ slip_words slip) }
 {
     let sent = SentAway(slip);
     write!(out, "{sent}")
 }
 
-fn put_slips(out: &mut String, slips: &[Slip]) -> fmt::Result
+fn put_slips(out: &mut String, slips: &[Slip]) -> Result<(), AllocError>
     ensures { OnOk result (string_bytes out.new ≡ string_bytes out.old ++ flat_map slip_words slips.now) }
 {
     for slip in slips {
@@ -58,14 +58,14 @@ fn put_slips(out: &mut String, slips: &[Slip]) -> fmt::Result
     Ok(())
 }
 
-fn put_asked(out: &mut String, call: Call) -> fmt::Result
+fn put_asked(out: &mut String, call: Call) -> Result<(), AllocError>
     ensures { OnOk result (string_bytes out.new ≡ string_bytes out.old ++ asked_words call) }
 {
     let asked = Asked(call);
     write!(out, "{asked}")
 }
 
-fn put_closing(out: &mut String, reports: &[Report]) -> fmt::Result
+fn put_closing(out: &mut String, reports: &[Report]) -> Result<(), AllocError>
     ensures { OnOk result (string_bytes out.new ≡ string_bytes out.old ++ closing reports.now) }
 {
     if reports.is_empty() {
@@ -76,7 +76,7 @@ fn put_closing(out: &mut String, reports: &[Report]) -> fmt::Result
 }
 
 // A call that was carried out.
-pub fn put_done(out: &mut String, call: Call, reports: &[Report], slips: &[Slip]) -> fmt::Result
+pub fn put_done(out: &mut String, call: Call, reports: &[Report], slips: &[Slip]) -> Result<(), AllocError>
     ensures { OnOk result (string_bytes out.new ≡ string_bytes out.old ++ done call reports.now slips.now) }
 {
     put_asked(out, call)?;
@@ -94,14 +94,14 @@ fn first_byte(line: &[u8]) -> u8
     line[0]
 }
 
-fn put_place(out: &mut String, name: FieldName, place: u32) -> fmt::Result
+fn put_place(out: &mut String, name: FieldName, place: u32) -> Result<(), AllocError>
     ensures { OnOk result (string_bytes out.new ≡ string_bytes out.old ++ place_words name place) }
 {
     write!(out, "field {place}, {name}, is \"")
 }
 
 // The field at this place: its name and what stood there.
-fn put_at_field(out: &mut String, line: &[u8], place: u32) -> fmt::Result
+fn put_at_field(out: &mut String, line: &[u8], place: u32) -> Result<(), AllocError>
     ensures { OnOk result (string_bytes out.new ≡ string_bytes out.old ++ at_field line.now place) }
 {
     put_place(out, field_named(first_byte(line), place), place)?;
@@ -109,7 +109,7 @@ fn put_at_field(out: &mut String, line: &[u8], place: u32) -> fmt::Result
     put_text(out, "\": ")
 }
 
-fn put_field(out: &mut String, line: &[u8], fault: Fault) -> fmt::Result
+fn put_field(out: &mut String, line: &[u8], fault: Fault) -> Result<(), AllocError>
     ensures { OnOk result (string_bytes out.new ≡ string_bytes out.old ++ field_part line.now (field_of fault)) }
 {
     match field_of(fault) {
@@ -118,20 +118,20 @@ fn put_field(out: &mut String, line: &[u8], fault: Fault) -> fmt::Result
     }
 }
 
-fn put_number(out: &mut String, number: u32) -> fmt::Result
+fn put_number(out: &mut String, number: u32) -> Result<(), AllocError>
     ensures { OnOk result (string_bytes out.new ≡ string_bytes out.old ++ number_words number) }
 {
     write!(out, " Refused, fault {number}: ")
 }
 
-fn put_meaning(out: &mut String, fault: Fault) -> fmt::Result
+fn put_meaning(out: &mut String, fault: Fault) -> Result<(), AllocError>
     ensures { OnOk result (string_bytes out.new ≡ string_bytes out.old ++ (fault_words fault ++ codes ".\n")) }
 {
     let meaning = Meaning(fault);
     writeln!(out, "{meaning}.")
 }
 
-fn put_refusal(out: &mut String, line: &[u8], fault: Fault) -> fmt::Result
+fn put_refusal(out: &mut String, line: &[u8], fault: Fault) -> Result<(), AllocError>
     ensures { OnOk result (string_bytes out.new ≡ string_bytes out.old ++ refusal line.now fault) }
 {
     put_number(out, fault.code().number)?;
@@ -140,7 +140,7 @@ fn put_refusal(out: &mut String, line: &[u8], fault: Fault) -> fmt::Result
 }
 
 // A call that was refused.
-pub fn put_refused(out: &mut String, line: &[u8], call: Call, fault: Fault) -> fmt::Result
+pub fn put_refused(out: &mut String, line: &[u8], call: Call, fault: Fault) -> Result<(), AllocError>
     ensures { OnOk result (string_bytes out.new ≡ string_bytes out.old ++ (asked_words call ++ refusal line.now fault)) }
 {
     put_asked(out, call)?;
@@ -148,7 +148,7 @@ pub fn put_refused(out: &mut String, line: &[u8], call: Call, fault: Fault) -> f
 }
 
 // A line that is no call.
-pub fn put_unread(out: &mut String, line: &[u8], fault: Fault) -> fmt::Result
+pub fn put_unread(out: &mut String, line: &[u8], fault: Fault) -> Result<(), AllocError>
     ensures { OnOk result (string_bytes out.new ≡ string_bytes out.old ++ (codes "This line cannot be read." ++ refusal line.now fault)) }
 {
     put_text(out, "This line cannot be read.")?;
@@ -156,7 +156,7 @@ pub fn put_unread(out: &mut String, line: &[u8], fault: Fault) -> fmt::Result
 }
 
 // A first line that begins no day.
-pub fn put_unsettled(out: &mut String, line: &[u8], fault: Fault) -> fmt::Result
+pub fn put_unsettled(out: &mut String, line: &[u8], fault: Fault) -> Result<(), AllocError>
     ensures { OnOk result (string_bytes out.new ≡ string_bytes out.old ++ unsettled line.now fault) }
 {
     put_text(out, "The day cannot begin.")?;
@@ -183,7 +183,7 @@ fn width_words(wide: bool) -> &'static str
     }
 }
 
-fn put_settings(out: &mut String, prices: &str, wide: &str) -> fmt::Result
+fn put_settings(out: &mut String, prices: &str, wide: &str) -> Result<(), AllocError>
     ensures { OnOk result (string_bytes out.new ≡ string_bytes out.old ++ settings_words prices.now wide.now) }
 {
     writeln!(
@@ -193,7 +193,7 @@ fn put_settings(out: &mut String, prices: &str, wide: &str) -> fmt::Result
 }
 
 // A first line that begins a day.
-pub fn put_settled(out: &mut String, settings: Settings) -> fmt::Result
+pub fn put_settled(out: &mut String, settings: Settings) -> Result<(), AllocError>
     ensures { OnOk result (string_bytes out.new ≡ string_bytes out.old ++ settled settings) }
 {
     put_settings(
@@ -203,7 +203,7 @@ pub fn put_settled(out: &mut String, settings: Settings) -> fmt::Result
     )
 }
 
-pub fn put_too_long(out: &mut String) -> fmt::Result
+pub fn put_too_long(out: &mut String) -> Result<(), AllocError>
     ensures { OnOk result (string_bytes out.new ≡ string_bytes out.old ++ too_long) }
 {
     writeln!(

@@ -4,6 +4,7 @@ ghost use Rattle.std.specs.List.{flat_map};
 ghost use Rattle.values.specs.Codes.{number_of};
 ghost use Rattle.values.specs.Texts.{capital, letter_text, letters_text, initial, layer_text, report_text, slip_text, fault_text, header_text, order_text, call_text, ended};
 
+use std::alloc::AllocError;
 use super::calls::{Call, Header, OrderFields};
 use super::faults::{Code, Fault, Layer};
 use super::reports::{Cause, Report, Slip};
@@ -225,37 +226,37 @@ impl fmt::Display for Call {
 }
 
 // Each on a line of its own.
-pub fn put_report(out: &mut String, report: Report) -> fmt::Result
+pub fn put_report(out: &mut String, report: Report) -> Result<(), AllocError>
     ensures { OnOk result (string_bytes out.new ≡ string_bytes out.old ++ ended report_text report) }
 {
     writeln!(out, "{report}")
 }
 
-pub fn put_slip(out: &mut String, slip: Slip) -> fmt::Result
+pub fn put_slip(out: &mut String, slip: Slip) -> Result<(), AllocError>
     ensures { OnOk result (string_bytes out.new ≡ string_bytes out.old ++ ended slip_text slip) }
 {
     writeln!(out, "{slip}")
 }
 
-pub fn put_fault(out: &mut String, fault: Fault) -> fmt::Result
+pub fn put_fault(out: &mut String, fault: Fault) -> Result<(), AllocError>
     ensures { OnOk result (string_bytes out.new ≡ string_bytes out.old ++ ended fault_text fault) }
 {
     writeln!(out, "{fault}")
 }
 
-pub fn put_header(out: &mut String, header: Header) -> fmt::Result
+pub fn put_header(out: &mut String, header: Header) -> Result<(), AllocError>
     ensures { OnOk result (string_bytes out.new ≡ string_bytes out.old ++ ended header_text header) }
 {
     writeln!(out, "{header}")
 }
 
-pub fn put_call(out: &mut String, call: Call) -> fmt::Result
+pub fn put_call(out: &mut String, call: Call) -> Result<(), AllocError>
     ensures { OnOk result (string_bytes out.new ≡ string_bytes out.old ++ ended call_text call) }
 {
     writeln!(out, "{call}")
 }
 
-pub fn put_reports(out: &mut String, reports: &[Report]) -> fmt::Result
+pub fn put_reports(out: &mut String, reports: &[Report]) -> Result<(), AllocError>
     ensures { OnOk result (string_bytes out.new ≡ string_bytes out.old ++ flat_map (ended report_text) reports.now) }
 {
     for report in reports {
@@ -264,7 +265,7 @@ pub fn put_reports(out: &mut String, reports: &[Report]) -> fmt::Result
     Ok(())
 }
 
-pub fn put_slips(out: &mut String, slips: &[Slip]) -> fmt::Result
+pub fn put_slips(out: &mut String, slips: &[Slip]) -> Result<(), AllocError>
     ensures { OnOk result (string_bytes out.new ≡ string_bytes out.old ++ flat_map (ended slip_text) slips.now) }
 {
     for slip in slips {

@@ -159,7 +159,7 @@ fn append(out: &mut Vec<u8>, line: &[u8; 128], start: usize) -> Result<(), Alloc
     requires { start ≤ 64 }
     ensures { OnOk result (out.new.items ≡ out.old.items ++ text_from start line.now) }
 {
-    let heap = out.allocator();
+    let heap = *out.allocator();
     let mut all = replace(out, Vec::new(heap));
     let done = append_block(&mut all, line, start);
     *out = all;

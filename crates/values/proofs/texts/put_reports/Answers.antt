@@ -6,7 +6,7 @@ use Rattle.values.proofs.Steps.{put_more}
 use Rattle.values.proofs.texts.put_reports.Goals as goal
 
 pub loop-report-preserved : goal.loop-report-preserved
-loop-report-preserved c = put_more (ended report_text) (string_bytes c.args.out.now) c.args.reports.now c.loop-report.report-index _ (search rules) c.in-ok-put-report.ensures c.loop-report.invariant
+loop-report-preserved c = put_more (ended report_text) (string_bytes c.args.out.now) c.args.reports.now c.loop-report.report-index _ (search rules) c.in_ok-put_report.ensures c.loop-report.invariant
 
 pub returns : goal.returns
 returns c = c.loop-report.invariant ∙ ap (λ l. string_bytes c.args.out.now ++ flat_map (ended report_text) l) (take_all _ c.args.reports.now (search rules))

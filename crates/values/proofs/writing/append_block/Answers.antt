@@ -7,7 +7,7 @@ pub returns : goal.returns
 returns c =
     let start = c.args.start in
     let line = c.args.line.now in
-    let more = c.in-ok-extend-from-slice.ensures in
+    let more = c.in_ok-extend_from_slice.ensures in
     let m : start + 64 - start ≡ 64 = omega arith in
     let count : length (take (start + 64 - start) (drop start line)) ≡ start + 64 - start = length-take-le _ (drop start line) (omega (arith, length-drop start line)) in
     let long : length (vec_items c.args.out.now) ≡ vec_len c.args.out.now = search rules in

@@ -5,10 +5,10 @@ use Rattle.values.proofs.writing.gather_fault.Goals as goal
 
 pub returns : goal.returns
 returns c =
-    let place = c.put-number-at.ensures.text ∙ ap (number _) c.requires in
-    let layer = c.put-byte-at.ensures.text ∙ ap₂ (λ b l. b ∷ l) c.initial.ensures place in
-    let tab = c.put-byte-at-2.ensures.text ∙ ap (λ l. 9 ∷ l) layer in
-    let all = c.put-byte.ensures.text ∙ ap (λ l. 69 ∷ l) (c.put-number-at-2.ensures.text ∙ ap (number _) tab) in
+    let place = c.put_number-at.ensures.text ∙ ap (number _) c.requires in
+    let layer = c.put_byte-at.ensures.text ∙ ap₂ (λ b l. b ∷ l) c.initial.ensures place in
+    let tab = c.put_byte-at-2.ensures.text ∙ ap (λ l. 9 ∷ l) layer in
+    let all = c.put_byte.ensures.text ∙ ap (λ l. 69 ∷ l) (c.put_number-at-2.ensures.text ∙ ap (number _) tab) in
     let of_code = ap (λ (k : Code). 69 ∷ number k.number (9 ∷ initial k.layer ∷ number k.place (10 ∷ []))) c.code-number.ensures in
     record {
       text = all ∙ of_code ∙ simp append_assoc;

@@ -6,7 +6,7 @@ use Rattle.values.proofs.Steps.{put_more}
 use Rattle.values.proofs.writing.put_slips.Goals as goal
 
 pub loop-slip-preserved : goal.loop-slip-preserved
-loop-slip-preserved c = put_more (ended slip_text) (vec_items c.args.out.now) c.args.slips.now c.loop-slip.slip-index _ (search rules) c.in-ok-put-slip.ensures c.loop-slip.invariant
+loop-slip-preserved c = put_more (ended slip_text) (vec_items c.args.out.now) c.args.slips.now c.loop-slip.slip-index _ (search rules) c.in_ok-put_slip.ensures c.loop-slip.invariant
 
 pub returns : goal.returns
 returns c = c.loop-slip.invariant ∙ ap (λ l. vec_items c.args.out.now ++ flat_map (ended slip_text) l) (take_all _ c.args.slips.now (search rules))
