@@ -5,4 +5,4 @@ use Rattle.checks.proofs.calls.check_header.Goals as goal
 
 pub returns : goal.returns
 returns c =
-    record { value = c.settings-of.ensures; leftmost = subst (λ r. HeaderJudged c.args.header r) (sym c.settings-of.ensures) (header_judged c.args.header) }
+    record { value = c.settings_of.ensures; leftmost = subst (λ r. HeaderJudged c.args.header r) (sym c.settings_of.ensures) (header_judged c.args.header) }

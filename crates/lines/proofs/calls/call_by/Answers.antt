@@ -12,4 +12,4 @@ known letter k fs is count =
 
 pub returns : goal.returns
 returns c =
-    c.read-as.ensures ∙ sym (known c.args.letter c.in-Some.kind (left_of c.args.rest) (search rules) (search rules))
+    c.read_as.ensures ∙ sym (known c.args.letter c.in-Some.kind (left_of c.args.rest) (search rules) (search rules))

@@ -16,4 +16,4 @@ pub returns-in-Order : goal.returns-in-Order
 returns-in-Order c = same (left_of c.args.fields.rest) c.in-Order.is c.requires c.order_in.ensures
 
 pub returns-in-Reply : goal.returns-in-Reply
-returns-in-Reply c = same (left_of c.args.fields.rest) c.in-Reply.is c.requires c.reply-in.ensures
+returns-in-Reply c = same (left_of c.args.fields.rest) c.in-Reply.is c.requires c.reply_in.ensures

@@ -5,11 +5,11 @@ use Rattle.lines.proofs.digits.+value.Goals as goal
 pub value-requires : goal.value-requires
 value-requires t c = (search rules, (search (rules, length-take-le), front_digits c.args.digits.now (omega (arith, ltb-false)) c.requires.all))
 
-pub overflow-mul-result : goal.overflow-mul-result
-overflow-mul-result t c = omega (arith, value_front c.args.digits.now (search rules) c.requires.few c.requires.all)
+pub overflow_mul-result : goal.overflow_mul-result
+overflow_mul-result t c = omega (arith, value_front c.args.digits.now (search rules) c.requires.few c.requires.all)
 
-pub overflow-add-result : goal.overflow-add-result
-overflow-add-result t c = omega (arith, value_front c.args.digits.now (search rules) c.requires.few c.requires.all)
+pub overflow_add-result : goal.overflow_add-result
+overflow_add-result t c = omega (arith, value_front c.args.digits.now (search rules) c.requires.few c.requires.all)
 
 pub returns-in-empty : goal.returns-in-empty
 returns-in-empty t c = sym (value_none c.args.digits.now (search rules))

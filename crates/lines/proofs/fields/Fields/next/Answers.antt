@@ -9,10 +9,10 @@ use Rattle.lines.proofs.fields.Fields.next.Goals.{then-n-line, else-n-line}
 pub returns : goal.returns
 returns c =
     let line = c.in-Some.line.now in
-    let n = c.until-tab-n.result in
-    let tells = c.until-tab-n.ensures in
+    let n = c.until_tab-n.result in
+    let tells = c.until_tab-n.ensures in
     let before = ap left_of c.in-Some.is in
-    let part : bytes_in c.read-field-field.result ≡ take n line = search rules in (
+    let part : bytes_in c.read_field-field.result ≡ take n line = search rules in (
       elim c.if-n-line.branch [
         | then-n-line w ↦
             let cut = fields_more n line w.if-n-line.true tells.before (tells.found w.if-n-line.true) in

@@ -9,8 +9,8 @@ loop-i-init c = search (rules, pick_none)
 pub loop-i-preserved : goal.loop-i-preserved
 loop-i-preserved c = search (rules, first_passed)
 
-pub returns-then-has-id : goal.returns-then-has-id
-returns-then-has-id c = search (rules, first_found)
+pub returns-then-has_id : goal.returns-then-has_id
+returns-then-has_id c = search (rules, first_found)
 
 pub returns : goal.returns
 returns c =

@@ -27,7 +27,7 @@ returns-then-self-i-eq1 c =
     let b = c.args.self.now.places in
     let a = c.args.arrival in
     let i = c.loop-i.i in
-    let first : ahead (later a) earlier b i c.loop-i.next ≡ true = sym c.if-comes-first.ensures in
+    let first : ahead (later a) earlier b i c.loop-i.next ≡ true = sym c.if-comes_first.ensures in
     let soon : (at b i).arrival ≡ a + 1 = omega (arith, c.if-self-i-eq1.true) in
     record {
       next = sym (pick_soonest a b i soon (length b) (rw c.loop-i.invariant.0 at first) (search rules));

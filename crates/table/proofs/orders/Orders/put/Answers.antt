@@ -2,6 +2,6 @@ use Rattle.std.proofs.Common.{arith, length-set, rules}
 use Rattle.table.proofs.Keeps.{clean_set, whole_live, free_put}
 use Rattle.table.proofs.orders.Orders.put.Goals as goal
 
-pub invariant-of-self : goal.invariant-of-self
-invariant-of-self c =
+pub invariant_of-self : goal.invariant_of-self
+invariant_of-self c =
     (search (rules, length-set), (clean_set c.args.self.now.places c.args.i c.args.order (search rules) c.args.self.now.clean (whole_live _ (search rules)), (search rules, (free_put c.args.self.now.places c.args.i c.args.self.now.extent _ c.args.order (search rules) (search rules) c.args.self.now.beyond, tt))))

@@ -11,8 +11,8 @@ loop-i-init c = search (rules, seat_none)
 pub loop-i-preserved : goal.loop-i-preserved
 loop-i-preserved c = search (rules, seat_passed)
 
-pub returns-then-is-of : goal.returns-then-is-of
-returns-then-is-of c = search (rules, seat_found)
+pub returns-then-is_of : goal.returns-then-is_of
+returns-then-is_of c = search (rules, seat_found)
 
 pub returns : goal.returns
 returns c =

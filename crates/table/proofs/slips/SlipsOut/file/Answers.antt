@@ -5,5 +5,5 @@ use Rattle.table.proofs.slips.SlipsOut.file.Goals as goal
 pub returns-in-Some : goal.returns-in-Some
 returns-in-Some c = search (rules, file_some)
 
-pub returns-in-default : goal.returns-in-default
-returns-in-default c = search (rules, file_none)
+pub returns-in_default : goal.returns-in_default
+returns-in_default c = search (rules, file_none)

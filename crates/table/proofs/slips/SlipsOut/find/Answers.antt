@@ -10,8 +10,8 @@ loop-i-init c = search (rules, seat_none)
 pub loop-i-preserved : goal.loop-i-preserved
 loop-i-preserved c = search (rules, seat_passed)
 
-pub returns-then-has-number : goal.returns-then-has-number
-returns-then-has-number c = search (rules, seat_found)
+pub returns-then-has_number : goal.returns-then-has_number
+returns-then-has_number c = search (rules, seat_found)
 
 pub returns : goal.returns
 returns c =

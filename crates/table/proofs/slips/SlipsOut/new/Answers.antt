@@ -2,5 +2,5 @@ use Rattle.std.proofs.Common.{refl, arith}
 use Rattle.table.proofs.Seats.{none_out}
 use Rattle.table.proofs.slips.SlipsOut.new.Goals as goal
 
-pub invariant-of-result : goal.invariant-of-result
-invariant-of-result c = (refl, (omega arith, (none_out _ c.nothing.ensures, tt)))
+pub invariant_of-result : goal.invariant_of-result
+invariant_of-result c = (refl, (omega arith, (none_out _ c.nothing.ensures, tt)))

@@ -2,6 +2,6 @@ use Rattle.std.proofs.Common.{length-set, rules}
 use Rattle.table.proofs.Seats.{out_settle}
 use Rattle.table.proofs.slips.SlipsOut.settle.Goals as goal
 
-pub invariant-of-self : goal.invariant-of-self
-invariant-of-self c =
+pub invariant_of-self : goal.invariant_of-self
+invariant_of-self c =
     (search (rules, length-set), (search rules, (out_settle c.args.self.now.places c.args.i c.args.self.now.extent c.nothing.result (search rules) c.nothing.ensures c.args.self.now.beyond, tt)))

@@ -8,5 +8,5 @@ loop-i-init c = search (rules, seat_none)
 pub loop-i-preserved : goal.loop-i-preserved
 loop-i-preserved c = search (rules, seat_passed)
 
-pub returns-then-is-vacant : goal.returns-then-is-vacant
-returns-then-is-vacant c = search (rules, seat_found)
+pub returns-then-is_vacant : goal.returns-then-is_vacant
+returns-then-is_vacant c = search (rules, seat_found)
