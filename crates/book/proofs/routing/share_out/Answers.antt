@@ -7,8 +7,8 @@ pub loop-x-preserved : goal.loop-x-preserved
 loop-x-preserved c =
     let inv = c.loop-x.invariant in (
       _,
-      grown_more _ _ _ _ _ inv.1 c.send-one-sent.ensures.slips,
-      going_on _ c.args.quotes.now _ _ _ inv.0 c.loop-x.x _ _ (search rules) c.send-one-sent.ensures.taken c.next-slip-next.ensures inv.2,
+      grown_more _ _ _ _ _ inv.1 c.send_one-sent.ensures.slips,
+      going_on _ c.args.quotes.now _ _ _ inv.0 c.loop-x.x _ _ (search rules) c.send_one-sent.ensures.taken c.next_slip-next.ensures inv.2,
     )
 
 pub returns : goal.returns

@@ -4,7 +4,7 @@ use Rattle.std.proofs.lemmas.Bool.{cases_lt, both_ways}
 use Rattle.book.specs.Books.{orders_of}
 use Rattle.book.proofs.Idling.{Seen, due_is, seen_idle, seen_due}
 use Rattle.book.proofs.book.Book.first_due.Goals as goal
-use Rattle.book.proofs.book.Book.first_due.Goals.{then-is-due, else-is-due}
+use Rattle.book.proofs.book.Book.first_due.Goals.{then-is_due, else-is_due}
 
 pub loop-i-preserved : goal.loop-i-preserved
 loop-i-preserved c =
@@ -17,8 +17,8 @@ loop-i-preserved c =
     let d = c.loop-i.due in
     let test = due_is a r last old b d i c.is-due.result c.order-order.result c.is-due.ensures c.order-order.ensures in
     elim c.if-is-due.branch [
-      | then-is-due w ↦ subst (Seen a r last old b (i + 1)) (sym (w.due-is ∙ ap (λ o. o.arrival) c.order-order.ensures)) (seen_due a r last old b i d (test ∙ w.if-is-due.true) c.loop-i.invariant)
-      | else-is-due w ↦ subst (Seen a r last old b (i + 1)) (sym w.due-is) (seen_idle a r last old b i d (test ∙ w.if-is-due.false) c.loop-i.invariant)
+      | then-is_due w ↦ subst (Seen a r last old b (i + 1)) (sym (w.due-is ∙ ap (λ o. o.arrival) c.order-order.ensures)) (seen_due a r last old b i d (test ∙ w.if-is-due.true) c.loop-i.invariant)
+      | else-is_due w ↦ subst (Seen a r last old b (i + 1)) (sym w.due-is) (seen_idle a r last old b i d (test ∙ w.if-is-due.false) c.loop-i.invariant)
     ]
 
 pub returns : goal.returns

@@ -5,8 +5,8 @@ use Rattle.book.proofs.book.Book.maker.Goals as goal
 pub returns-then-taker-eq0 : goal.returns-then-taker-eq0
 returns-then-taker-eq0 c = search (rules, hit_done)
 
-pub returns-in-err-i : goal.returns-in-err-i
-returns-in-err-i c = search (rules, hit_nobody)
+pub returns-in_err-i : goal.returns-in_err-i
+returns-in_err-i c = search (rules, hit_nobody)
 
 pub returns-then-suits : goal.returns-then-suits
 returns-then-suits c = search (rules, hit_takes)

@@ -7,8 +7,8 @@ use Rattle.book.proofs.book.Book.quote.Goals as goal
 
 pub turns-requires : goal.turns-requires
 turns-requires c =
-    let most = count_by-le-length live c.clamp-all-reach.new.self.places in
-    (search rules, (omega (arith, most, c.clamp-all-reach.new.self.full, c.requires), bounds_reach _ _ c.clamp-all-reach.ensures.reach))
+    let most = count_by-le-length live c.clamp_all-reach.new.self.places in
+    (search rules, (omega (arith, most, c.clamp_all-reach.new.self.full, c.requires), bounds_reach _ _ c.clamp_all-reach.ensures.reach))
 
 pub returns : goal.returns
-returns c R on = quote_comes _ R _ _ _ _ _ _ c.all-before.ensures.all (c.clamp-all-reach.ensures.rungs R on) (c.turns.ensures R on)
+returns c R on = quote_comes _ R _ _ _ _ _ _ c.all-before.ensures.all (c.clamp_all-reach.ensures.rungs R on) (c.turns.ensures R on)

@@ -13,8 +13,8 @@ returns-in-None c =
     let end = left_ends _ _ _ _ inv.0 _ (inr c.in-None.ensures.hit) inv.2 in
     record { taker = end.0; book = end.1; reported = rw end.2 at inv.1 }
 
-pub fill-one-requires : goal.fill-one-requires
-fill-one-requires c =
+pub fill_one-requires : goal.fill_one-requires
+fill_one-requires c =
     let inv = c.loop-fills.invariant in
     let n = length (orders_of c.args.self.now) in
     let more = left_room _ _ _ _ inv.0 (n - c.loop-fills.fills) (n - (c.loop-fills.fills + 1)) c.in-Some.i (search rules) c.in-Some.ensures.hit inv.2 in
@@ -25,8 +25,8 @@ loop-fills-preserved c =
     let inv = c.loop-fills.invariant in
     let n = length (orders_of c.args.self.now) in (
       inv.0 ++ _ ∷ [],
-      grown_more _ _ _ _ _ inv.1 c.fill-one.ensures.reported,
-      left_goes _ _ _ _ _ _ inv.0 (n - c.loop-fills.fills) (n - (c.loop-fills.fills + 1)) c.in-Some.i (search rules) c.in-Some.ensures.hit c.fill-one.ensures.taker c.fill-one.ensures.book inv.2,
+      grown_more _ _ _ _ _ inv.1 c.fill_one.ensures.reported,
+      left_goes _ _ _ _ _ _ inv.0 (n - c.loop-fills.fills) (n - (c.loop-fills.fills + 1)) c.in-Some.i (search rules) c.in-Some.ensures.hit c.fill_one.ensures.taker c.fill_one.ensures.book inv.2,
     )
 
 pub returns : goal.returns
