@@ -15,10 +15,10 @@ loop-i-preserved c =
     let b = orders_of c.args.self.now in
     let i = c.loop-i.i in
     let d = c.loop-i.due in
-    let test = due_is a r last old b d i c.is-due.result c.order-order.result c.is-due.ensures c.order-order.ensures in
-    elim c.if-is-due.branch [
-      | then-is_due w ↦ subst (Seen a r last old b (i + 1)) (sym (w.due-is ∙ ap (λ o. o.arrival) c.order-order.ensures)) (seen_due a r last old b i d (test ∙ w.if-is-due.true) c.loop-i.invariant)
-      | else-is_due w ↦ subst (Seen a r last old b (i + 1)) (sym w.due-is) (seen_idle a r last old b i d (test ∙ w.if-is-due.false) c.loop-i.invariant)
+    let test = due_is a r last old b d i c.is_due.result c.order-order.result c.is_due.ensures c.order-order.ensures in
+    elim c.if-is_due.branch [
+      | then-is_due w ↦ subst (Seen a r last old b (i + 1)) (sym (w.due-is ∙ ap (λ o. o.arrival) c.order-order.ensures)) (seen_due a r last old b i d (test ∙ w.if-is_due.true) c.loop-i.invariant)
+      | else-is_due w ↦ subst (Seen a r last old b (i + 1)) (sym w.due-is) (seen_idle a r last old b i d (test ∙ w.if-is_due.false) c.loop-i.invariant)
     ]
 
 pub returns : goal.returns
