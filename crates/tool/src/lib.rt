@@ -1,6 +1,7 @@
 //! How the programs are asked: by a file's name, by standard input, or for help.
 //! Promises nothing about what is read: a run shows it. What a program makes of its input is promised elsewhere.
 //! Knows no lines and no series.
+use anyhow::anyhow;
 use std::fs::File;
 use std::io::{Read, Write};
 use std::{env, io};
@@ -52,23 +53,14 @@ fn read_standard(rt: &HostRuntime, most: u64) -> io::Result<Vec<u8>> {
     Ok(input)
 }
 
-// A message on standard error, and the failing status.
-fn fail(rt: &HostRuntime, message: String) -> anyhow::Error {
-    match eprintln!(rt; "{message}") {
-        Ok(()) => "failed".into(),
-        Err(error) => error.into(),
-    }
-}
-
 // The bytes that the program is asked to take, `most` of them at most; none where it was asked for help, which is then
-// printed. Where they cannot be had, that is said on standard error.
+// printed. Where they cannot be had, the error says why, in words for `main` to print.
 pub fn asked_input(
     rt: &HostRuntime,
     program: &str,
     help: &str,
     most: u64,
 ) -> anyhow::Result<Option<Vec<u8>>> {
-    let heap = rt.alloc();
     match asked(rt)? {
         Request::Help => {
             rt.stdout().write_all(help.as_bytes())?;
@@ -76,25 +68,17 @@ pub fn asked_input(
         }
         Request::StandardInput => match read_standard(rt, most) {
             Ok(input) => Ok(Some(input)),
-            Err(error) => Err(fail(
-                rt,
-                format!(in heap; "{program}: cannot read standard input: {error}")?,
-            )),
+            Err(error) => Err(anyhow!("{program}: cannot read standard input: {error}")),
         },
         Request::File(name) => match read_file(rt, name.as_str(), most) {
             Ok(input) => Ok(Some(input)),
-            Err(error) => Err(fail(
-                rt,
-                format!(in heap; "{program}: cannot read {name}: {error}")?,
-            )),
+            Err(error) => Err(anyhow!("{program}: cannot read {name}: {error}")),
         },
-        Request::UnknownFlag(flag) => Err(fail(
-            rt,
-            format!(in heap; "{program}: no flag {flag}; try {program} --help")?,
+        Request::UnknownFlag(flag) => Err(anyhow!(
+            "{program}: no flag {flag}; try {program} --help"
         )),
-        Request::TooMany => Err(fail(
-            rt,
-            format!(in heap; "{program}: one file at most; try {program} --help")?,
+        Request::TooMany => Err(anyhow!(
+            "{program}: one file at most; try {program} --help"
         )),
     }
 }

@@ -15,13 +15,13 @@ loop-ask-preserved g c =
     let n = length c.args.reports.now in
     let k = length c.args.slips.now in
     let s = stands g.B.Board.quotes c.loop-ask.series in
-    let s' = stands g.B.Board.quotes c.ask-one.new.series in
+    let s' = stands g.B.Board.quotes c.ask_one.new.series in
     let R = g.L.Ladder.rung c.new-series.result.ladder in
     let on = ap g.L.Ladder.rung c.loop-ask.invariant.0 in
     let a = get_or c.args.asks.now c.loop-ask.ask-index no_ask in
     let lt : c.loop-ask.ask-index < length c.args.asks.now = omega arith in
-    let took = took_as (g.L.Ladder.rung c.loop-ask.series.ladder) R (length c.loop-ask.reports) n (length c.loop-ask.slips) k a s s' on c.loop-ask.auto.reports c.loop-ask.auto.slips c.ask-one.ensures.took in
-    (c.ask-one.ensures.ladder ∙ c.loop-ask.invariant.0, ran_more R c.args.wide n k c.args.asks.now c.loop-ask.ask-index no_ask s s' lt c.loop-ask.invariant.1 took)
+    let took = took_as (g.L.Ladder.rung c.loop-ask.series.ladder) R (length c.loop-ask.reports) n (length c.loop-ask.slips) k a s s' on c.loop-ask.auto.reports c.loop-ask.auto.slips c.ask_one.ensures.took in
+    (c.ask_one.ensures.ladder ∙ c.loop-ask.invariant.0, ran_more R c.args.wide n k c.args.asks.now c.loop-ask.ask-index no_ask s s' lt c.loop-ask.invariant.1 took)
 
 pub returns : goal.returns
 returns g c =

@@ -13,6 +13,6 @@ unfolding bests
 returns g c =
     let R = g.L.Ladder.rung c.args.ladder.now in
     record {
-      best = both _ _ _ _ (ap (λ p. p.0) c.best-bid-bid.ensures) (ap (λ p. p.0) c.best-offer-offer.ensures);
-      rungs = on_both R _ (c.unwrap-or.ensures ∙ sym (beneath_answer R _ _ c.below.ensures)) (c.unwrap-or-2.ensures ∙ sym (above_answer R _ _ (g.met.L.Ladder.most c.args.ladder.now) c.above.ensures));
+      best = both _ _ _ _ (ap (λ p. p.0) c.best_bid-bid.ensures) (ap (λ p. p.0) c.best_offer-offer.ensures);
+      rungs = on_both R _ (c.unwrap_or.ensures ∙ sym (beneath_answer R _ _ c.below.ensures)) (c.unwrap_or-2.ensures ∙ sym (above_answer R _ _ (g.met.L.Ladder.most c.args.ladder.now) c.above.ensures));
     }

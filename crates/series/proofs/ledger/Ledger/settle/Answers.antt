@@ -7,8 +7,8 @@ use Rattle.series.proofs.ledger.Ledger.settle.Goals as goal
 
 pub returns : goal.returns
 returns c =
-    let grown = grown_more _ _ _ _ _ c.report-filled.ensures c.report-unfilled.ensures in
+    let grown = grown_more _ _ _ _ _ c.report_filled.ensures c.report_unfilled.ensures in
     record {
       after = search rules;
-      reported = subst (λ (x : Slip). Grown c.args.reports.now (filled_part x c.args.filled ++ unfilled_part x c.args.filled) c.report-unfilled.new.reports) c.slip-slip.ensures grown;
+      reported = subst (λ (x : Slip). Grown c.args.reports.now (filled_part x c.args.filled ++ unfilled_part x c.args.filled) c.report_unfilled.new.reports) c.slip-slip.ensures grown;
     }

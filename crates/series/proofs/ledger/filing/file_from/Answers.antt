@@ -7,6 +7,6 @@ use Rattle.series.proofs.ledger.filing.file_from.Goals as goal
 
 pub returns : goal.returns
 returns c = record {
-  filed = c.file-all.ensures ∙ ap (λ (xs : List Slip). filed c.args.id xs (slips_in c.args.sent.now)) (rest_of c.as-slice-all.result.now _ _ c.as-slice-all.ensures);
+  filed = c.file_all.ensures ∙ ap (λ (xs : List Slip). filed c.args.id xs (slips_in c.args.sent.now)) (rest_of c.as_slice-all.result.now _ _ c.as_slice-all.ensures);
   count = omega (arith, c.used.ensures, c.requires.0);
 }

@@ -8,27 +8,27 @@ use Rattle.series.specs.Rows.{away_row}
 use Rattle.series.proofs.Coming.{beside, room_is, came_refused, away_unfit, away_rowed, away_came, grew}
 use Rattle.series.proofs.series.Series.away.Goals as goal
 
-pub returns-in-err-check-away : goal.returns-in-err-check-away
-returns-in-err-check-away g c =
-    let p = err_from_is_err_and c.from-residual.result c.from-residual.ensures.1 in
-    let e = sym c.in-err-check-away.ensures in
+pub returns-in_err-check_away : goal.returns-in_err-check_away
+returns-in_err-check_away g c =
+    let p = err_from_is_err_and c.from_residual.result c.from_residual.ensures.1 in
+    let e = sym c.in_err-check_away.ensures in
     rw (p.1, p.2) (record { came = λ k. came_refused _ _ _ _ _ _ _ (away_unfit _ _ _ _ _ _ e); whole = refl; ladder = refl; reports = refl })
 
-pub returns-in-err-report-row : goal.returns-in-err-report-row
-returns-in-err-report-row g c =
-    let p = err_from_is_err_and c.from-residual-in-err-report-row.result c.from-residual-in-err-report-row.ensures.1 in
-    let e = sym c.in-ok-check-away.ensures in
-    let at = ap away_row (room_is _ _ _ c.room.ensures) ∙ sym c.in-err-report-row.ensures in
+pub returns-in_err-report_row : goal.returns-in_err-report_row
+returns-in_err-report_row g c =
+    let p = err_from_is_err_and c.from_residual-in_err-report_row.result c.from_residual-in_err-report_row.ensures.1 in
+    let e = sym c.in_ok-check_away.ensures in
+    let at = ap away_row (room_is _ _ _ c.room.ensures) ∙ sym c.in_err-report_row.ensures in
     rw (p.1, p.2) (record { came = λ k. came_refused _ _ _ _ _ _ _ (away_rowed _ _ _ _ _ _ _ e at); whole = refl; ladder = refl; reports = refl })
 
 pub returns : goal.returns
 returns g c =
-    let e = sym c.in-ok-check-away.ensures in
-    let at = ap away_row (room_is _ _ _ c.room.ensures) ∙ sym c.in-ok-report-row.ensures in
+    let e = sym c.in_ok-check_away.ensures in
+    let at = ap away_row (room_is _ _ _ c.room.ensures) ∙ sym c.in_ok-report_row.ensures in
     let R = g.L.Ladder.rung c.args.self.now.ladder in
-    let done = c.quote.ensures R c.away-best-away.ensures.rungs in
+    let done = c.quote.ensures R c.away_best-away.ensures.rungs in
     let s = state (g.B.Board.quotes c.args.self.now.board) c.args.self.now.ledger in
-    let best = c.away-best-away.ensures.best ∙ ap bests c.tell.ensures in
-    let to = ap (beside (g.B.Board.quotes c.tell.new.self)) done.after ∙ ap (λ (qs : List Quote). requoted s qs (quote c.away-best-away.result.best R s.orders)) c.tell.ensures in
+    let best = c.away_best-away.ensures.best ∙ ap bests c.tell.ensures in
+    let to = ap (beside (g.B.Board.quotes c.tell.new.self)) done.after ∙ ap (λ (qs : List Quote). requoted s qs (quote c.away_best-away.result.best R s.orders)) c.tell.ensures in
     let grown = done.reported in
-    record { came = λ k. away_came R _ _ _ s _ _ c.away-best-away.result.best _ _ e at best to grown; whole = tt; ladder = refl; reports = grew _ _ _ grown }
+    record { came = λ k. away_came R _ _ _ s _ _ c.away_best-away.result.best _ _ e at best to grown; whole = tt; ladder = refl; reports = grew _ _ _ grown }

@@ -3,13 +3,13 @@ use Rattle.std.proofs.lemmas.Result.{err_from_is_err_and}
 use Rattle.series.proofs.Coming.{beside, came_refused, open_refused, open_came}
 use Rattle.series.proofs.series.Series.open.Goals as goal
 
-pub returns-in-err-open-row : goal.returns-in-err-open-row
-returns-in-err-open-row g c =
-    let p = err_from_is_err_and c.from-residual.result c.from-residual.ensures.1 in
-    let e = sym c.in-err-open-row.ensures in
+pub returns-in_err-open_row : goal.returns-in_err-open_row
+returns-in_err-open_row g c =
+    let p = err_from_is_err_and c.from_residual.result c.from_residual.ensures.1 in
+    let e = sym c.in_err-open_row.ensures in
     rw (p.1, p.2) (record { came = λ m. came_refused _ _ m _ _ _ _ (open_refused _ m _ _ e); whole = refl; ladder = refl; board = refl })
 
 pub returns : goal.returns
 returns g c =
-    let e = sym c.in-ok-open-row.ensures in
+    let e = sym c.in_ok-open_row.ensures in
     record { came = λ m. open_came _ m _ _ e (ap (beside (g.B.Board.quotes c.args.self.now.board)) c.open.ensures); whole = tt; ladder = refl; board = refl }

@@ -11,41 +11,41 @@ use Rattle.series.proofs.Coming.{beside, room_is, came_refused, grew}
 use Rattle.series.proofs.Entering.{order_unfit, order_rowed, order_judged, order_passed, entry_fits, entering_as, order_came}
 use Rattle.series.proofs.series.Series.order.Goals as goal
 
-pub returns-in-err-order : goal.returns-in-err-order
-returns-in-err-order g c =
-    let p = err_from_is_err_and c.from-residual.result c.from-residual.ensures.1 in
-    let e = sym c.in-err-order.ensures in
+pub returns-in_err-order : goal.returns-in_err-order
+returns-in_err-order g c =
+    let p = err_from_is_err_and c.from_residual.result c.from_residual.ensures.1 in
+    let e = sym c.in_err-order.ensures in
     rw (p.1, p.2) (record { came = came_refused _ _ _ _ _ _ _ (order_unfit _ _ _ _ _ e); whole = refl; ladder = refl; board = refl; reports = refl; slips = refl })
 
-pub returns-in-err-place : goal.returns-in-err-place
-returns-in-err-place g c =
-    let p = err_from_is_err_and c.from-residual-in-err-place.result c.from-residual-in-err-place.ensures.1 in
+pub returns-in_err-place : goal.returns-in_err-place
+returns-in_err-place g c =
+    let p = err_from_is_err_and c.from_residual-in_err-place.result c.from_residual-in_err-place.ensures.1 in
     let s = state (g.B.Board.quotes c.args.self.now.board) c.args.self.now.ledger in
-    let o = c.in-ok-order.order in
-    let e = sym c.in-ok-order.ensures in
-    let row = ap (λ (n : ℕ). entry_row s o n (free_places c.args.slips.now)) (room_is _ _ _ c.room.ensures) ∙ ap (λ (n : ℕ). entry_row s o c.room.result n) (room_is _ _ _ c.room-2.ensures) ∙ c.in-err-place.ensures in
+    let o = c.in_ok-order.order in
+    let e = sym c.in_ok-order.ensures in
+    let row = ap (λ (n : ℕ). entry_row s o n (free_places c.args.slips.now)) (room_is _ _ _ c.room.ensures) ∙ ap (λ (n : ℕ). entry_row s o c.room.result n) (room_is _ _ _ c.room-2.ensures) ∙ c.in_err-place.ensures in
     rw (p.1, p.2) (record { came = came_refused _ _ _ _ _ _ _ (order_rowed _ s _ _ o _ e row); whole = refl; ladder = refl; board = refl; reports = refl; slips = refl })
 
-pub returns-in-err-passed : goal.returns-in-err-passed
-returns-in-err-passed g c =
-    let p = err_from_is_err_and c.from-residual-in-err-passed.result c.from-residual-in-err-passed.ensures.1 in
+pub returns-in_err-passed : goal.returns-in_err-passed
+returns-in_err-passed g c =
+    let p = err_from_is_err_and c.from_residual-in_err-passed.result c.from_residual-in_err-passed.ensures.1 in
     let R = g.L.Ladder.rung c.args.self.now.ladder in
     let s = state (g.B.Board.quotes c.args.self.now.board) c.args.self.now.ledger in
-    let o = c.in-ok-order.order in
-    let e = sym c.in-ok-order.ensures in
-    let row = ap (λ (n : ℕ). entry_row s o n (free_places c.args.slips.now)) (room_is _ _ _ c.room.ensures) ∙ ap (λ (n : ℕ). entry_row s o c.room.result n) (room_is _ _ _ c.room-2.ensures) ∙ c.in-ok-place.ensures.0 in
-    let why = ap (λ (b : Bests). passing R s.wide b (here s.orders) o) (sym c.away-best-away.ensures.best) ∙ sym c.in-err-passed.ensures in
+    let o = c.in_ok-order.order in
+    let e = sym c.in_ok-order.ensures in
+    let row = ap (λ (n : ℕ). entry_row s o n (free_places c.args.slips.now)) (room_is _ _ _ c.room.ensures) ∙ ap (λ (n : ℕ). entry_row s o c.room.result n) (room_is _ _ _ c.room-2.ensures) ∙ c.in_ok-place.ensures.0 in
+    let why = ap (λ (b : Bests). passing R s.wide b (here s.orders) o) (sym c.away_best-away.ensures.best) ∙ sym c.in_err-passed.ensures in
     rw (p.1, p.2) (record { came = came_refused _ _ _ _ _ _ _ (order_judged R s _ _ o _ e row why); whole = refl; ladder = refl; board = refl; reports = refl; slips = refl })
 
 pub enter-requires : goal.enter-requires
 enter-requires g c =
     let s = state (g.B.Board.quotes c.args.self.now.board) c.args.self.now.ledger in
-    let fits = entry_fits s c.in-ok-order.order c.room.result c.room-2.result c.in-ok-place.ensures.0 in
+    let fits = entry_fits s c.in_ok-order.order c.room.result c.room-2.result c.in_ok-place.ensures.0 in
     record {
-      ladder = (g.L.Ladder.rung c.args.self.now.ladder, c.away-best-away.ensures.rungs);
-      place = c.in-ok-place.ensures.1;
+      ladder = (g.L.Ladder.rung c.args.self.now.ladder, c.away_best-away.ensures.rungs);
+      place = c.in_ok-place.ensures.1;
       arrivals = fits.2;
-      quotes = ap length c.quotes-of-quotes.ensures ∙ g.B.Board.fifteen c.args.self.now.board;
+      quotes = ap length c.quotes_of-quotes.ensures ∙ g.B.Board.fifteen c.args.self.now.board;
       reports = omega (arith, fits.0, c.room.ensures);
       slips = omega (arith, fits.1, c.room-2.ensures);
     }
@@ -55,18 +55,18 @@ returns g c =
     let R = g.L.Ladder.rung c.args.self.now.ladder in
     let qs = g.B.Board.quotes c.args.self.now.board in
     let s = state qs c.args.self.now.ledger in
-    let o = c.in-ok-order.order in
-    let e = sym c.in-ok-order.ensures in
-    let placed = c.in-ok-place.ensures in
+    let o = c.in_ok-order.order in
+    let e = sym c.in_ok-order.ensures in
+    let placed = c.in_ok-place.ensures in
     let row = ap (λ (n : ℕ). entry_row s o n (free_places c.args.slips.now)) (room_is _ _ _ c.room.ensures) ∙ ap (λ (n : ℕ). entry_row s o c.room.result n) (room_is _ _ _ c.room-2.ensures) ∙ placed.0 in
-    let best = c.away-best-away.ensures.best in
-    let pass = sym c.in-ok-passed.ensures in
+    let best = c.away_best-away.ensures.best in
+    let pass = sym c.in_ok-passed.ensures in
     let fine = ap (λ (b : Bests). passing R s.wide b (here s.orders) o) (sym best) ∙ pass in
-    let done = c.enter.ensures R c.away-best-away.ensures.rungs in
-    let is = entering_as R s o c.in-ok-place.place c.in-ok-passed.passed c.away-best-away.result.best c.routable-routable.result c.quotes-of-quotes.result _ refl best c.routable-routable.ensures c.quotes-of-quotes.ensures pass in
-    let in' : c.in-ok-place.place < length s.orders = omega (arith, placed.1, c.args.self.now.ledger.book.orders.full) in
+    let done = c.enter.ensures R c.away_best-away.ensures.rungs in
+    let is = entering_as R s o c.in_ok-place.place c.in_ok-passed.passed c.away_best-away.result.best c.routable-routable.result c.quotes_of-quotes.result _ refl best c.routable-routable.ensures c.quotes_of-quotes.ensures pass in
+    let in' : c.in_ok-place.place < length s.orders = omega (arith, placed.1, c.args.self.now.ledger.book.orders.full) in
     record {
-      came = order_came R _ _ s _ o c.in-ok-place.place _ c.args.reports.now c.enter.new.reports c.args.slips.now c.enter.new.slips e (order_passed R s _ _ o _ e row fine) in' placed.2 is (ap (beside qs) done.after) done.reported.added done.sent.added;
+      came = order_came R _ _ s _ o c.in_ok-place.place _ c.args.reports.now c.enter.new.reports c.args.slips.now c.enter.new.slips e (order_passed R s _ _ o _ e row fine) in' placed.2 is (ap (beside qs) done.after) done.reported.added done.sent.added;
       whole = tt;
       ladder = refl;
       board = refl;
