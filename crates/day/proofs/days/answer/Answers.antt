@@ -8,26 +8,26 @@ use Rattle.day.proofs.days.answer.Goals as goal
 pub returns-in-Err : goal.returns-in-Err
 returns-in-Err g c =
     record {
-      value = IfOk-weaker c.put-fault.result _ _ (λ _ e. (unread c.in-Err.fault, sym c.in-Err.ensures, e, refl)) c.put-fault.ensures;
+      value = IfOk-weaker c.put_fault.result _ _ (λ _ e. (unread c.in-Err.fault, sym c.in-Err.ensures, e, refl)) c.put_fault.ensures;
       ladder = refl;
     }
 
-pub returns-in-ok-put-reports : goal.returns-in-ok-put-reports
-returns-in-ok-put-reports g c =
+pub returns-in_ok-put_reports-in-Ok-call : goal.returns-in_ok-put_reports-in-Ok-call
+returns-in_ok-put_reports-in-Ok-call g c =
     let e = c.in-Ok-call.ensures in
     let k = e.came in
     let r = c.new-reported.ensures in
     let s = c.new-sent.ensures in
     record {
       value =
-          IfOk-weaker c.put-slips.result _ _
+          IfOk-weaker c.put_slips.result _ _
           (λ _ b. (
             came (did c.in-Ok.call _ k.0 k.1),
             (sym c.in-Ok.ensures, full_room _ _ _ _ (r.room ∙ c.requires.0) r.used (s.room ∙ c.requires.1) s.used),
-            both_written _ _ _ _ _ k.0 _ _ _ k.1 _ r.empty s.empty k.2 k.3 c.as-slice.ensures c.as-slice-in-Ok-call.ensures c.in-ok-put-reports.ensures b,
+            both_written _ _ _ _ _ k.0 _ _ _ k.1 _ r.empty s.empty k.2 k.3 c.as_slice.ensures c.as_slice-in-Ok-call.ensures c.in_ok-put_reports-in-Ok-call.ensures b,
             k.4,
           ))
-          c.put-slips.ensures;
+          c.put_slips.ensures;
       ladder = e.ladder;
     }
 
@@ -39,13 +39,13 @@ returns-in-Err-call g c =
     let s = c.new-sent.ensures in
     record {
       value =
-          IfOk-weaker c.put-fault-in-Err-call.result _ _
+          IfOk-weaker c.put_fault-in-Err-call.result _ _
           (λ _ b. (
             came (refused c.in-Ok.call _ c.in-Err-call.fault),
             (sym c.in-Ok.ensures, full_room _ _ _ _ (r.room ∙ c.requires.0) r.used (s.room ∙ c.requires.1) s.used),
             b,
             k.2,
           ))
-          c.put-fault-in-Err-call.ensures;
+          c.put_fault-in-Err-call.ensures;
       ladder = e.ladder;
     }

@@ -7,7 +7,7 @@ use Rattle.day.proofs.days.answer_all.Goals as goal
 pub loop-line-preserved : goal.loop-line-preserved
 loop-line-preserved g c =
     let i = c.loop-line.invariant in
-    let a = c.in-ok-answer.ensures in
+    let a = c.in_ok-answer.ensures in
     let v = a.value in (
       omega arith,
       omega arith,
@@ -19,6 +19,6 @@ pub returns : goal.returns
 returns g c =
     let i = c.loop-line.invariant in
     record {
-      value = onward_end _ _ _ _ _ _ _ c.in-default.ensures.handed.0 i.3;
+      value = onward_end _ _ _ _ _ _ _ c.in_default.ensures.handed.0 i.3;
       ladder = i.2;
     }

@@ -7,4 +7,4 @@ use Rattle.day.proofs.days.put_calls.Goals as goal
 pub returns : goal.returns
 returns c =
     let n = c.new-series.ensures in
-    IfOk-weaker c.answer-all.result _ _ (λ _ e. (e.0, e.1, day_of c.args.settings.ladder c.args.settings.wide _ _ _ _ _ (ap rungs_of n.ladder) n.state e.2)) c.answer-all.ensures.value
+    IfOk-weaker c.answer_all.result _ _ (λ _ e. (e.0, e.1, day_of c.args.settings.ladder c.args.settings.wide _ _ _ _ _ (ap rungs_of n.ladder) n.state e.2)) c.answer_all.ensures.value
