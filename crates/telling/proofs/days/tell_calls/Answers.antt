@@ -7,4 +7,4 @@ use Rattle.telling.proofs.days.tell_calls.Goals as goal
 pub returns : goal.returns
 returns c =
     let n = c.new-series.ensures in
-    IfOk-weaker c.tell-all.result _ _ (λ _ e. (e.0, e.1, day_of c.args.settings.ladder c.args.settings.wide _ _ _ _ _ (ap rungs_of n.ladder) n.state e.2)) c.tell-all.ensures.value
+    IfOk-weaker c.tell_all.result _ _ (λ _ e. (e.0, e.1, day_of c.args.settings.ladder c.args.settings.wide _ _ _ _ _ (ap rungs_of n.ladder) n.state e.2)) c.tell_all.ensures.value

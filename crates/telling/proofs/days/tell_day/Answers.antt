@@ -5,4 +5,4 @@ use Rattle.telling.proofs.Steps.{two}
 use Rattle.telling.proofs.days.tell_day.Goals as goal
 
 pub returns : goal.returns
-returns c = IfOk-weaker c.tell-calls.result _ _ (λ _ e. (e.0, two (string_bytes c.args.out.now) _ _ (settled c.args.settings) _ c.in-ok-put-settled.ensures e.1, e.2)) c.tell-calls.ensures
+returns c = IfOk-weaker c.tell_calls.result _ _ (λ _ e. (e.0, two (string_bytes c.args.out.now) _ _ (settled c.args.settings) _ c.in_ok-put_settled.ensures e.1, e.2)) c.tell_calls.ensures

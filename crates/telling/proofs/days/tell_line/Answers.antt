@@ -9,7 +9,7 @@ use Rattle.telling.proofs.days.tell_line.Goals as goal
 pub returns-in-Err : goal.returns-in-Err
 returns-in-Err g c =
     record {
-      value = IfOk-weaker c.put-unread.result _ _ (λ _ e. (unread c.in-Err.fault, sym c.in-Err.ensures, e, refl)) c.put-unread.ensures;
+      value = IfOk-weaker c.put_unread.result _ _ (λ _ e. (unread c.in-Err.fault, sym c.in-Err.ensures, e, refl)) c.put_unread.ensures;
       ladder = refl;
     }
 
@@ -21,14 +21,14 @@ returns-in-Ok-call g c =
     let s = c.new-sent.ensures in
     record {
       value =
-          IfOk-weaker c.put-done.result _ _
+          IfOk-weaker c.put_done.result _ _
           (λ _ b. (
             came (did c.in-Ok.call _ k.0 k.1),
             (sym c.in-Ok.ensures, full_room _ _ _ _ (r.room ∙ c.requires.0) r.used (s.room ∙ c.requires.1) s.used),
-            done_told _ _ _ _ _ k.0 _ _ _ k.1 _ r.empty s.empty k.2 k.3 c.as-slice.ensures c.as-slice-in-Ok-call.ensures b,
+            done_told _ _ _ _ _ k.0 _ _ _ k.1 _ r.empty s.empty k.2 k.3 c.as_slice.ensures c.as_slice-in-Ok-call.ensures b,
             k.4,
           ))
-          c.put-done.ensures;
+          c.put_done.ensures;
       ladder = e.ladder;
     }
 
@@ -40,13 +40,13 @@ returns-in-Err-call g c =
     let s = c.new-sent.ensures in
     record {
       value =
-          IfOk-weaker c.put-refused.result _ _
+          IfOk-weaker c.put_refused.result _ _
           (λ _ b. (
             came (refused c.in-Ok.call _ c.in-Err-call.fault),
             (sym c.in-Ok.ensures, full_room _ _ _ _ (r.room ∙ c.requires.0) r.used (s.room ∙ c.requires.1) s.used),
             b,
             k.2,
           ))
-          c.put-refused.ensures;
+          c.put_refused.ensures;
       ladder = e.ladder;
     }

@@ -12,8 +12,8 @@ pub returns : goal.returns
 unfolding at_field
 returns c =
     let named =
-    ap (λ (n : FieldName). string_bytes c.args.out.now ++ place_words n c.args.place) (c.field_named.ensures ∙ ap (λ k. field_named k c.args.place) c.first-byte.ensures) in
-    let shown = c.field-after.ensures ∙ ap (λ n. get_or (fields c.args.line.now) n []) c.saturating-sub.ensures in
-    IfOk-weaker c.put-text.result _ _
-    (λ _ e. three (string_bytes c.args.out.now) _ _ _ (place_words (field_named (get_or c.args.line.now 0 0) c.args.place) c.args.place) _ _ (c.in-ok-put-place.ensures ∙ named) (c.in-ok-put-shown.ensures ∙ ap (λ l. string_bytes c.put-place.new.out ++ flat_map visible (take 80 l)) shown) e)
-    c.put-text.ensures
+    ap (λ (n : FieldName). string_bytes c.args.out.now ++ place_words n c.args.place) (c.field_named.ensures ∙ ap (λ k. field_named k c.args.place) c.first_byte.ensures) in
+    let shown = c.field_after.ensures ∙ ap (λ n. get_or (fields c.args.line.now) n []) c.saturating_sub.ensures in
+    IfOk-weaker c.put_text.result _ _
+    (λ _ e. three (string_bytes c.args.out.now) _ _ _ (place_words (field_named (get_or c.args.line.now 0 0) c.args.place) c.args.place) _ _ (c.in_ok-put_place.ensures ∙ named) (c.in_ok-put_shown.ensures ∙ ap (λ l. string_bytes c.put_place.new.out ++ flat_map visible (take 80 l)) shown) e)
+    c.put_text.ensures

@@ -7,4 +7,4 @@ use Rattle.telling.proofs.paragraphs.put_done.Goals as goal
 
 pub returns : goal.returns
 unfolding done
-returns c = IfOk-weaker c.put-closing.result _ _ (λ _ e. four (string_bytes c.args.out.now) _ _ _ _ (asked_words c.args.call) _ _ _ c.in-ok-put-asked.ensures c.in-ok-put-reports.ensures c.in-ok-put-slips.ensures e) c.put-closing.ensures
+returns c = IfOk-weaker c.put_closing.result _ _ (λ _ e. four (string_bytes c.args.out.now) _ _ _ _ (asked_words c.args.call) _ _ _ c.in_ok-put_asked.ensures c.in_ok-put_reports.ensures c.in_ok-put_slips.ensures e) c.put_closing.ensures

@@ -10,4 +10,4 @@ pub returns : goal.returns
 unfolding refusal
 returns c =
     let numbered = ap (λ (k : Code). string_bytes c.args.out.now ++ number_words k.number) c.code.ensures in
-    IfOk-weaker c.put-meaning.result _ _ (λ _ e. three (string_bytes c.args.out.now) _ _ _ (number_words (code c.args.fault).number) _ _ (c.in-ok-put-number.ensures ∙ numbered) c.in-ok-put-field.ensures e) c.put-meaning.ensures
+    IfOk-weaker c.put_meaning.result _ _ (λ _ e. three (string_bytes c.args.out.now) _ _ _ (number_words (code c.args.fault).number) _ _ (c.in_ok-put_number.ensures ∙ numbered) c.in_ok-put_field.ensures e) c.put_meaning.ensures

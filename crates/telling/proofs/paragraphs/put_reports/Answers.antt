@@ -6,7 +6,7 @@ use Rattle.telling.proofs.Steps.{put_more}
 use Rattle.telling.proofs.paragraphs.put_reports.Goals as goal
 
 pub loop-report-preserved : goal.loop-report-preserved
-loop-report-preserved c = put_more report_words (string_bytes c.args.out.now) c.args.reports.now c.loop-report.report-index _ (search rules) c.in-ok-put-report.ensures c.loop-report.invariant
+loop-report-preserved c = put_more report_words (string_bytes c.args.out.now) c.args.reports.now c.loop-report.report-index _ (search rules) c.in_ok-put_report.ensures c.loop-report.invariant
 
 pub returns : goal.returns
 returns c = c.loop-report.invariant ∙ ap (λ l. string_bytes c.args.out.now ++ flat_map report_words l) (take_all _ c.args.reports.now (search rules))

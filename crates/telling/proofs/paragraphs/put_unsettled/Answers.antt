@@ -6,4 +6,4 @@ use Rattle.telling.proofs.paragraphs.put_unsettled.Goals as goal
 
 pub returns : goal.returns
 unfolding unsettled
-returns c = IfOk-weaker c.put-refusal.result _ _ (λ _ e. two (string_bytes c.args.out.now) _ _ (codes "The day cannot begin.") _ c.in-ok-put-text.ensures e) c.put-refusal.ensures
+returns c = IfOk-weaker c.put_refusal.result _ _ (λ _ e. two (string_bytes c.args.out.now) _ _ (codes "The day cannot begin.") _ c.in_ok-put_text.ensures e) c.put_refusal.ensures
