@@ -1,4 +1,6 @@
 //! A morning of away quotes on standard input: after each quote, the best away bid and offer and the rungs next to them.
+#![tactic(auto)]
+
 use lines::records::INPUT_LIMIT;
 use market::packed::BOARD_BYTES;
 use morning::answers::put_morning;

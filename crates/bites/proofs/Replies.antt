@@ -13,7 +13,6 @@ use Rattle.values.specs.declared.reports.Report.TheVariants.{New, Booked, Filled
 use Rattle.values.specs.declared.reports.Slip.{Slip}
 use Rattle.values.specs.Codes.{of_series}
 use Rattle.checks.specs.declared.checked.CheckedOrder.{CheckedOrder}
-use Rattle.rules.specs.declared.Order.{Order}
 use Rattle.rules.specs.declared.Sent.{Sent}
 use Rattle.rules.specs.Sizes.{away, cancelled}
 use Rattle.rules.specs.Slips.{no_sent}

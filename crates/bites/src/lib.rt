@@ -1,5 +1,7 @@
 //! The law bites: wrong histories, each one change away from a run, and each proved not to be lawful.
 //! Promises both halves of every pair. Nothing here carries a call out.
+#![tactic(auto)]
+
 ghost use Rattle.bites.specs.Wrong.{ThroughTheOffer, UnderTheBid, PastTheMakersProtection, TwoBuysTrade, OfNothing, Locks, RestsUnbooked, RestMisstated, WrittenPastTheRoom, OnlyTheOldest, InventedSize, SettledTwice, SettledInPart, AwayUnasked, CancelsAnother, QuoteForgotten, BookedPastItsProtection, NumberSkipped};
 
 // A fill above the best away offer.

@@ -1,5 +1,5 @@
 -- How many reports trading and resting write: each fill does away with its maker or with its taker. Assumes nothing.
-use Rattle.std.proofs.Common.{◌≡◌, ℕ, zero, suc, ◌+◌, ◌-◌, ◌<◌, ◌≤◌, min, Bool, true, false, cond, ◌&&◌, eqb, ltb, List, [], ◌∷◌, length, set, sym, refl, ap, ◌∙◌, subst, arith}
+use Rattle.std.proofs.Common.{◌≡◌, ℕ, ◌+◌, ◌<◌, ◌≤◌, Bool, true, false, cond, ◌&&◌, eqb, List, [], ◌∷◌, length, set, arith}
 use Rattle.std.proofs.lemmas.Bool.{ltb-true, cond_both}
 use Rattle.std.proofs.lemmas.List.Sums.{sum_by-set, count_by-le-length}
 use Rattle.values.specs.declared.reports.Report.{Report}
@@ -12,7 +12,7 @@ use Rattle.rules.specs.Resting.{Out}
 use Rattle.trading_laws.proofs.Slots.{branch_both, live_within}
 use Rattle.trading_laws.proofs.Room.{one, one_live, one_most, trade_room}
 use Rattle.table.specs.declared.sides.Away.{Away}
-use Rattle.book.specs.Rests.{rest_on, booked_at, settle_on}
+use Rattle.book.specs.Rests.{rest_on, settle_on}
 
 pub settle_room : (a : Away) (i : ℕ) (old t : Order) (b : List Order) → i < length b → length (settle_on a i old t b).out + taken (settle_on a i old t b).book ≤ taken b + one t + one t
 settle_room a i old t b in' =

@@ -1,9 +1,9 @@
 -- Routing's shares, exchange by exchange. Assumes nothing.
-use Rattle.std.proofs.Common.{◌≡◌, ℕ, zero, suc, ◌+◌, ◌-◌, ◌<◌, ◌≤◌, min, Bool, true, false, cond, ltb, List, [], ◌∷◌, ◌++◌, length, get_or, drop, sym, refl, ap, ◌∙◌, append_assoc, append-nil, add-one, arith, length-append, drop-cons}
+use Rattle.std.proofs.Common.{◌≡◌, ℕ, suc, ◌+◌, ◌-◌, ◌<◌, ◌≤◌, Bool, true, false, ltb, List, [], ◌∷◌, ◌++◌, length, get_or, drop, sym, refl, ap, ◌∙◌, append_assoc, append-nil, add-one, arith, length-append, drop-cons}
 use native.Mathlib.Nat.{sub-zero}
 use Rattle.std.proofs.lemmas.List.{drop_all}
 use Rattle.std.proofs.lemmas.List.Sums.{sum_by-append}
-use Rattle.std.proofs.lemmas.Bool.{ltb-true, ltb-false}
+use Rattle.std.proofs.lemmas.Bool.{ltb-false}
 use Rattle.market.specs.declared.board.Quote.{Quote}
 use Rattle.values.specs.declared.terms.Side.{Side}
 use Rattle.values.specs.declared.reports.Slip.{Slip}
@@ -11,7 +11,7 @@ use Rattle.rules.specs.declared.Order.{Order}
 use Rattle.rules.specs.declared.Bests.{Bests}
 use Rattle.rules.specs.Sides.{facing}
 use Rattle.rules.specs.Book.{side_of, with_rem}
-use Rattle.rules.specs.Routing.{offered, shares, total, routing}
+use Rattle.rules.specs.Routing.{shares, total, routing}
 use Rattle.records.specs.declared.list.AppendList.{AppendList}
 use Rattle.records.specs.Contents.{Grown}
 use Rattle.records.proofs.Growing.{grown_none}

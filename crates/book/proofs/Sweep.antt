@@ -1,5 +1,5 @@
 -- Step three of a quote, turn by turn. Assumes nothing.
-use Rattle.std.proofs.Common.{◌≡◌, ℕ, zero, suc, ◌+◌, ◌-◌, ◌<◌, ◌≤◌, Bool, true, List, [], ◌∷◌, ◌++◌, map, length, set, Some, sum_by, sym, refl, ap, ◌∙◌, append_assoc, append-nil, arith}
+use Rattle.std.proofs.Common.{◌≡◌, ℕ, suc, ◌+◌, ◌-◌, ◌<◌, ◌≤◌, Bool, true, List, [], ◌++◌, map, length, set, Some, sum_by, sym, refl, ap, ◌∙◌, append_assoc, append-nil, arith}
 use lib.ListN.{length-map}
 use Rattle.std.proofs.lemmas.List.Sums.{count_by-le-length}
 use Rattle.values.specs.declared.reports.Report.{Report}
@@ -10,7 +10,6 @@ use Rattle.rules.specs.Routing.{nowhere}
 use Rattle.rules.specs.Resting.{Out, turn}
 use Rattle.rules.specs.Quoting.{clamp, later, earlier, turns, quote}
 use Rattle.records.specs.declared.list.AppendList.{AppendList}
-use Rattle.records.specs.Contents.{Grown}
 use Rattle.trading_laws.proofs.Telling.{waiting}
 use Rattle.trading_laws.proofs.Skipping.{Idle, AllIdle, found_waits, nobody_waits, waits_less, turn_fewer, turns_skip, turns_rest}
 use Rattle.book.specs.Rests.{turned, Came}

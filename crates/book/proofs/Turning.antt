@@ -1,5 +1,5 @@
 -- A turn, from what its parts gave. Assumes nothing.
-use Rattle.std.proofs.Common.{◌≡◌, ℕ, zero, suc, ◌+◌, ◌-◌, ◌<◌, ◌≤◌, Bool, true, false, cond, ◌&&◌, eqb, ltb, List, [], ◌∷◌, ◌++◌, length, set, Some, None, Option, sym, refl, ap, ◌∙◌, subst, arith}
+use Rattle.std.proofs.Common.{◌≡◌, ℕ, ◌-◌, Bool, cond, ◌&&◌, ltb, List, [], ◌∷◌, length, set, Some, None, Option, refl, ap, ◌∙◌, subst}
 use native.Mathlib.Nat.{sub-zero}
 use Rattle.values.specs.declared.reports.Report.{Report}
 use Rattle.values.specs.declared.reports.Report.TheVariants.{New, Cancelled}
@@ -16,7 +16,7 @@ use Rattle.records.specs.declared.list.AppendList.{AppendList}
 use Rattle.records.specs.Contents.{Grown}
 use Rattle.records.proofs.Growing.{grown_more}
 use Rattle.table.specs.declared.sides.Away.{Away}
-use Rattle.table.specs.Away.{On, backed}
+use Rattle.table.specs.Away.{On}
 use Rattle.book.specs.Rests.{rest_on, booked_at, settle_on, turned, Came, Dealt}
 
 module _ (R : ℕ → Bool) (a : Away) (on : On R a) where

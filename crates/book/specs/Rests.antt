@@ -4,7 +4,7 @@
 --     turned r                what a turn makes of the book, and reports
 --     Came r b l l'           what came out is r: the book b, and its reports at the end of the list
 --     Dealt r b l l' m m'     the same, with its slips at the end of a second list
-use Rattle.std.specs.Prelude.{◌≡◌, ℕ, Bool, cond, ◌&&◌, List, [], ◌∷◌, Some, None, Option, ◌==◌, nat_lt, slice_set}
+use Rattle.std.specs.Prelude.{◌≡◌, ℕ, cond, ◌&&◌, List, [], ◌∷◌, Some, None, Option, ◌==◌, nat_lt, slice_set}
 use Rattle.values.specs.declared.reports.Report.{Report}
 use Rattle.values.specs.declared.reports.Report.TheVariants.{Booked, Cancelled}
 use Rattle.values.specs.declared.reports.Slip.{Slip}

@@ -1,6 +1,8 @@
 //! The model inside another program: a day's text in, its answer into memory that the caller lends.
 //! Promises: the answer is that of `day`, byte for byte, and its length is told; where it does not fit nothing is written.
 //! Knows numbers and byte slices only, and of the model the day alone.
+#![tactic(auto)]
+
 ghost use Rattle.std.specs.Prelude.{◌≡◌, ℕ, ◌<◌, ◌≤◌, List, ◌++◌, length, IfOk, string_bytes};
 ghost use Rattle.day.specs.Days.{Writes};
 ghost use Rattle.boundary.specs.Handing.{Hands, Placed};

@@ -1,14 +1,13 @@
 -- Each field's check decides its judgment. Assumes nothing.
-use Rattle.std.proofs.Common.{◌≡◌, ℕ, ◌<◌, ◌≤◌, Bool, true, false, cond, ◌&&◌, ◌||◌, eqb, ltb, leb, ◌⊎◌, Ok, Err, Result, sym, refl, subst, inl, inr, arith}
+use Rattle.std.proofs.Common.{◌≡◌, ℕ, ◌<◌, ◌≤◌, Bool, true, false, cond, ◌&&◌, ◌||◌, eqb, leb, ◌⊎◌, Ok, Err, sym, refl, subst, inl, inr, arith}
 use Rattle.std.proofs.lemmas.Bool.Decides.{nat_tests}
 use Rattle.values.specs.declared.terms.Letter.{Letter}
 use Rattle.values.specs.declared.terms.Letter.TheVariants as letter
 use Rattle.values.specs.declared.terms.Kind.{Kind}
 use Rattle.values.specs.declared.terms.Kind.TheVariants.{Limit, Market, Immediate, AllOrNone}
-use Rattle.values.specs.declared.faults.CheckFault.{CheckFault}
-use Rattle.values.specs.declared.faults.CheckFault.TheVariants.{OutOfRange, OffLadder, KindNotHandled}
+use Rattle.values.specs.declared.faults.CheckFault.TheVariants.{OutOfRange, OffLadder}
 use Rattle.checks.specs.Fields.{ladder_by, side_by, origin_by, kind_by, mark_by, listed, within, wide_by, size_beside, limit_by, on_ladder, handled}
-use Rattle.checks.specs.Law.{Judgment, judge, SizeFits, LimitFits, EitherLetter, ladder_letter, side_letter, origin_letter, kind_letter, mark_letter}
+use Rattle.checks.specs.Law.{judge, SizeFits, LimitFits, EitherLetter, ladder_letter, side_letter, origin_letter, kind_letter, mark_letter}
 use Rattle.checks.proofs.Judging.{DecidesOne, by_test}
 
 pub within_decides : (low high field n : ℕ) → DecidesOne (judge 4 field ((low ≤ n) × (n ≤ high))) (λ v. v ≡ n) (within low high field n)

@@ -4,7 +4,7 @@
 --     leftmost             Refused, in a sorted list, is the law
 --     DecidesOne j P r    r decides the judgment j, and its value has P
 --     and_then, done       the chain of checks, one judgment at a time
-use Rattle.std.proofs.Common.{◌≡◌, ℕ, ◌<◌, ◌≤◌, Bool, true, false, cond, not, ◌&&◌, ◌||◌, eqb, ltb, leb, ◌⊎◌, List, [], ◌∷◌, Ok, Err, Result, refl, inl, inr, arith}
+use Rattle.std.proofs.Common.{◌≡◌, ℕ, Bool, true, false, cond, not, ◌&&◌, ◌||◌, eqb, ltb, ◌⊎◌, List, [], ◌∷◌, Ok, Err, Result, refl, inl, inr, arith}
 use Rattle.std.proofs.lemmas.Bool.Decides.{nat_tests}
 use Rattle.values.specs.declared.faults.CheckFault.{CheckFault}
 use Rattle.checks.specs.Checked.{then}

@@ -1,20 +1,14 @@
 -- The field checks answer by the leftmost field of the topmost row. Assumes nothing.
-use Rattle.std.proofs.Common.{◌≡◌, ℕ, Bool, true, false, cond, List, [], ◌∷◌, Ok, Err, Result, sym, refl, ap, ◌∙◌}
+use Rattle.std.proofs.Common.{◌≡◌, ℕ, Bool, refl, ap, ◌∙◌}
 use Rattle.market.specs.declared.board.Quote.{Quote}
 use Rattle.values.specs.declared.terms.Letter.{Letter}
-use Rattle.values.specs.declared.terms.Kind.{Kind}
 use Rattle.values.specs.declared.calls.Header.{Header}
 use Rattle.values.specs.declared.calls.OrderFields.{OrderFields}
 use Rattle.values.specs.declared.calls.Call.{Call}
 use Rattle.values.specs.declared.calls.Call.TheVariants as call
-use Rattle.values.specs.declared.faults.CheckFault.{CheckFault}
-use Rattle.checks.specs.declared.checked.Settings.{Settings}
-use Rattle.checks.specs.declared.checked.CheckedOrder.{CheckedOrder}
-use Rattle.checks.specs.declared.checked.CheckedCall.{CheckedCall}
 use Rattle.checks.specs.declared.checked.CheckedCall.TheVariants as checked
-use Rattle.checks.specs.Fields.{ladder_by, side_by, origin_by, kind_by, mark_by, listed, within, wide_by, size_beside, limit_by, on_ladder, handled}
-use Rattle.checks.specs.Checked.{then, checked_header, checked_away, checked_order, checked_cancel, checked_reply, checked_call}
-use Rattle.checks.specs.Law.{Judgment, Judged, header_rows, away_rows, order_rows, cancel_rows, reply_rows, call_rows, kind_letter, header_of, fields_of, asked, HeaderJudged, CallJudged}
+use Rattle.checks.specs.Checked.{checked_header, checked_away, checked_order, checked_cancel, checked_reply, checked_call}
+use Rattle.checks.specs.Law.{header_rows, away_rows, order_rows, cancel_rows, reply_rows, kind_letter, header_of, fields_of, asked, HeaderJudged, CallJudged}
 use Rattle.checks.proofs.Judging.{InOrder, and_then, done, carried, ordered}
 use Rattle.checks.proofs.Decisions.{within_decides, up_to_decides, on_ladder_decides, rung_decides, size_decides, wide_decides, limit_decides, handled_decides, ladder_decides, side_decides, origin_decides, kind_decides, mark_decides}
 

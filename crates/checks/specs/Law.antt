@@ -8,7 +8,7 @@
 --     Judged js Carries r    r is a value, all fit, and the value is the right one; or a fault, as above
 --     header_rows, call_rows the judgments of a header and of a call
 --     header_of, asked       the header that gives these settings, and the call that was asked for
-use Rattle.std.specs.Prelude.{◌≡◌, ℕ, ◌<◌, ◌≤◌, Bool, true, false, cond, ◌&&◌, ◌||◌, ◌⊎◌, List, [], ◌∷◌, Ok, Err, Result, ◌==◌, nat_lt}
+use Rattle.std.specs.Prelude.{◌≡◌, ℕ, ◌<◌, ◌≤◌, Bool, true, cond, ◌&&◌, ◌||◌, ◌⊎◌, List, [], ◌∷◌, Ok, Err, Result, ◌==◌, nat_lt}
 use Rattle.market.specs.declared.any.AnyLadder.{AnyLadder}
 use Rattle.market.specs.declared.any.AnyLadder.TheVariants.{Cents, CentsThenFives, FivesThenTens}
 use Rattle.market.specs.declared.board.Quote.{Quote}

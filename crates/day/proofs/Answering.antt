@@ -1,5 +1,5 @@
 -- What one line's answer comes to. Assumes nothing.
-use Rattle.std.proofs.Common.{◌≡◌, ℕ, ◌+◌, ◌-◌, List, [], ◌∷◌, ◌++◌, sym, refl, ap, ◌∙◌, ap₂, append_assoc, arith}
+use Rattle.std.proofs.Common.{◌≡◌, ℕ, ◌-◌, List, [], ◌++◌, ap, ◌∙◌, ap₂, append_assoc, arith}
 use Rattle.std.specs.List.{flat_map}
 use Rattle.values.specs.declared.reports.Report.{Report}
 use Rattle.values.specs.declared.reports.Slip.{Slip}

@@ -4,7 +4,7 @@ use Rattle.std.specs.List.{flat_map}
 use Rattle.rules.specs.States.{State}
 use Rattle.rules.specs.Steps.{Event, Run}
 use Rattle.rules.specs.Steps.Run.{next}
-use Rattle.day.specs.Days.{Outcome, text, Fits, Answers, Moves, Comes, Answered, after, events_on}
+use Rattle.day.specs.Days.{Outcome, text, Fits, Answers, Moves, Comes, Answered, events_on}
 use Rattle.day.specs.Days.Outcome.{unread, came}
 
 -- whatever the lines ls are answered with from the state s, after b was written, is the end of an answer to ls₀ from s₀ after b₀

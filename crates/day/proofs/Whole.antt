@@ -1,10 +1,9 @@
 -- Lines that are answered from a new series are a day. Assumes nothing.
-use Rattle.std.proofs.Common.{◌≡◌, ℕ, ◌≤◌, Bool, true, false, List, [], ◌∷◌, ◌++◌, length, Ok, sym, refl, subst, append-nil, arith}
+use Rattle.std.proofs.Common.{◌≡◌, ℕ, ◌≤◌, Bool, List, [], ◌∷◌, length, Ok, sym, refl, subst, arith}
 use Rattle.std.proofs.lemmas.Bool.Decides.{nat_tests}
 use Rattle.market.specs.declared.any.AnyLadder.{AnyLadder}
 use Rattle.market.specs.declared.any.AnyLadder.TheVariants.{Cents, CentsThenFives, FivesThenTens}
 use Rattle.market.specs.Any.{rungs_of}
-use Rattle.market.specs.Rungs.{cents, cents_then_fives, fives_then_tens}
 use Rattle.rules.specs.Ladders.{Rungs}
 use Rattle.rules.specs.States.{State, new}
 use Rattle.rules.specs.Steps.Run.{start}

@@ -9,10 +9,9 @@
 --     Comes R s os s'         the outcomes os, one after the other
 --     Day R wide lines out    out is what is written for these lines by a lawful run of a new series
 --     Writes input out        out is what is written for an input of any length
-use Rattle.std.specs.Prelude.{◌≡◌, ℕ, ◌≤◌, Bool, true, false, List, [], ◌∷◌, ◌++◌, length, Ok, Err, Result, nat_le}
+use Rattle.std.specs.Prelude.{◌≡◌, ℕ, Bool, true, false, List, [], ◌∷◌, ◌++◌, length, Ok, Err, Result, nat_le}
 use Rattle.std.specs.List.{flat_map}
 use Rattle.market.specs.Any.{rungs_of}
-use Rattle.values.specs.declared.calls.Call.{Call}
 use Rattle.values.specs.declared.calls.Header.{Header}
 use Rattle.values.specs.declared.faults.Fault.{Fault}
 use Rattle.values.specs.declared.faults.LineFault.{LineFault}

@@ -1,4 +1,6 @@
 //! A day of one series in plain words: a line of text for each line of the input.
+#![tactic(auto)]
+
 use lines::records::INPUT_LIMIT;
 use std::io::Write;
 use telling::put_telling;

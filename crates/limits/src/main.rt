@@ -1,5 +1,7 @@
 //! The refusals that no day of lines can show: too little room in the lists, an order after the last
 //! arrival number, and memory of another length than a board's.
+#![tactic(auto)]
+
 use market::any::AnyLadder;
 use market::board::{Board, Quote};
 use market::ladder::Ladder;

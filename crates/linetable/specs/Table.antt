@@ -6,7 +6,7 @@
 --     told answer              what is written of an answer
 --     table stage lines        what is written of all lines
 --     answered input           what is written of an input
-use Rattle.std.specs.Prelude.{ℕ, Bool, true, false, cond, ◌&&◌, List, [], ◌∷◌, ◌++◌, length, Ok, Err, Result, ◌==◌, nat_le, slice_index}
+use Rattle.std.specs.Prelude.{ℕ, Bool, cond, ◌&&◌, List, [], ◌∷◌, ◌++◌, length, Ok, Err, Result, ◌==◌, nat_le, slice_index}
 use Rattle.market.specs.declared.any.AnyLadder.{AnyLadder}
 use Rattle.market.specs.Any.{rungs_of}
 use Rattle.values.specs.declared.calls.Header.{Header}

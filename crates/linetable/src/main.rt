@@ -1,5 +1,7 @@
 //! Judges every line of a table that is piped in: read it, check its fields, and write the call back or the fault.
 //! docs/LINETABLE.md has the table, with the reason of every answer.
+#![tactic(auto)]
+
 mod table;
 
 use std::io::{Read, Write};

@@ -1,9 +1,9 @@
 -- The steps of the loop that makes a board absent.
-use Rattle.std.proofs.Common.{◌≡◌, ℕ, ◌+◌, ◌-◌, ◌*◌, ◌<◌, ◌≤◌, true, false, cond, ◌≢◌, ◌⊎◌, List, length, get_or, set, replicate, sym, refl, ap, ◌∙◌, inl, inr, arith}
-use Rattle.std.proofs.lemmas.List.{get_or-set_same, get_or-set_other, get_or-replicate, length-replicate, ext_get_or}
+use Rattle.std.proofs.Common.{◌≡◌, ℕ, ◌+◌, ◌-◌, ◌<◌, ◌≤◌, cond, List, length, get_or, set, replicate, sym, ap, ◌∙◌, inl, inr, arith}
+use Rattle.std.proofs.lemmas.List.{get_or-set_same, get_or-set_other, get_or-replicate, ext_get_or}
 use Rattle.std.proofs.lemmas.Bool.{cases_eq}
 use Rattle.market.specs.declared.board.Quote.{Quote}
-use Rattle.market.specs.Quotes.{absent, here, told}
+use Rattle.market.specs.Quotes.{absent, told}
 use Rattle.market.proofs.Packs.{here_in}
 
 pub clear_more : (qs ts : List Quote) (e : ℕ) → length qs ≡ 15 → 1 ≤ e → e < 16 → ts ≡ told qs e absent → ((k : ℕ) → k + 1 < e → get_or qs k absent ≡ absent) → (k : ℕ) → k + 1 < e + 1 → get_or ts k absent ≡ absent

@@ -1,10 +1,10 @@
 -- The best of a side is what its name says, at either side.
-use Rattle.std.proofs.Common.{◌≡◌, ℕ, zero, suc, ◌+◌, ◌-◌, ◌<◌, ◌≤◌, Bool, true, false, cond, eqb, ltb, ◌⊎◌, List, [], ◌∷◌, length, get_or, fold, sum_by, sym, refl, ap, ◌∙◌, inl, inr, arith}
+use Rattle.std.proofs.Common.{◌≡◌, ℕ, zero, suc, ◌+◌, ◌<◌, Bool, true, false, cond, eqb, ◌⊎◌, List, [], ◌∷◌, length, get_or, fold, sum_by, sym, refl, ap, ◌∙◌, inl, inr, arith}
 use Rattle.std.proofs.lemmas.List.Sums.{sum_by-cons}
 use Rattle.std.proofs.lemmas.Bool.Decides.{nat_tests}
 use Rattle.std.proofs.lemmas.Bool.{cases_Bool}
 use Rattle.market.specs.declared.board.Quote.{Quote}
-use Rattle.market.specs.Quotes.{absent, better, best_price, counted, size_at, higher, lower, bid_of, bid_size_of, offer_of, offer_size_of, best_bid, best_offer, Best, BestsAreBest}
+use Rattle.market.specs.Quotes.{absent, better, best_price, counted, size_at, higher, lower, bid_of, bid_size_of, offer_of, offer_size_of, Best, BestsAreBest}
 
 -- what the laws of `beats` have to be
 record Order (beats : ℕ → ℕ → Bool) : Type 0 where

@@ -1,11 +1,10 @@
 -- What stands in the 240 bytes after a write, byte for byte.
-use Rattle.std.proofs.Common.{◌≡◌, ℕ, zero, suc, ◌+◌, ◌-◌, ◌*◌, ◌<◌, ◌≤◌, true, false, cond, List, [], ◌∷◌, ◌++◌, length, take, drop, set, replicate, sym, refl, ap, ◌∙◌, append_assoc, arith, length-append}
+use Rattle.std.proofs.Common.{◌≡◌, ℕ, zero, suc, ◌+◌, ◌-◌, ◌*◌, ◌<◌, ◌≤◌, cond, List, [], ◌∷◌, ◌++◌, length, take, drop, set, sym, refl, ap, ◌∙◌, append_assoc, arith, length-append}
 use lib.Seq.{paste, sets, sets-eq}
 use Rattle.std.proofs.lemmas.List.Edits.{paste_all, paste-paste}
 use Rattle.std.proofs.lemmas.List.{drop_at, drop-drop}
-use Rattle.std.proofs.lemmas.Bool.Decides.{nat_tests}
 use Rattle.market.specs.declared.board.Quote.{Quote}
-use Rattle.market.specs.Quotes.{here, told}
+use Rattle.market.specs.Quotes.{told}
 use Rattle.market.specs.Packing.{word_bytes, record_bytes, packed, overwritten, told_bytes}
 use Rattle.market.proofs.Packs.{here_in}
 

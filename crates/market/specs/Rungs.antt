@@ -5,7 +5,7 @@
 --     cents, cents_then_fives, fives_then_tens     the three sets of rungs
 --     climbed R n p       n rungs up from p, staying at 100,000 once there
 --     descended R n p     n rungs down from p, staying at the lowest rung once there
-use Rattle.std.specs.Prelude.{◌≡◌, ℕ, zero, suc, ◌+◌, ◌-◌, ◌%◌, ◌<◌, ◌≤◌, Bool, true, false, cond, ◌&&◌, Some, None, Option, ◌==◌, nat_le, nat_lt}
+use Rattle.std.specs.Prelude.{◌≡◌, ℕ, zero, suc, ◌-◌, ◌%◌, ◌<◌, Bool, true, false, cond, ◌&&◌, Some, None, Option, ◌==◌, nat_le, nat_lt}
 
 abbrev pub Lowest : (ℕ → Bool) → ℕ → Type 0
 Lowest R r = (R r ≡ true) × ((k : ℕ) → k < r → R k ≡ false)

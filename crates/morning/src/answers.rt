@@ -5,7 +5,6 @@ ghost use Rattle.lines.specs.Inputs.{lines_of};
 ghost use Rattle.morning.specs.Mornings.{taken, after};
 ghost use Rattle.morning.specs.Answers.{Answer, Over, Morning};
 
-use std::alloc::AllocError;
 use super::taking::{Taken, start, take};
 use super::text::{put_bytes, put_fault, put_passed_over, put_quote, put_tops};
 use super::tops::top;
@@ -15,6 +14,7 @@ use market::board::Board;
 use market::ladder::Ladder;
 use market::packed::PackedBoard;
 use market::table::TableBoard;
+use std::alloc::AllocError;
 use values::faults::{Fault, LineFault};
 
 // A line's answer: the exchange's quote and the top of the away market, that it is passed over, or its fault.

@@ -3,9 +3,9 @@ ghost use Rattle.std.specs.Prelude.{◌≡◌, ◌<◌, ◌++◌, Some, string_b
 ghost use Rattle.values.specs.Texts.{ended, fault_text};
 ghost use Rattle.morning.specs.Words.{side_text, rung_text, quote_line, top_line, passed_line, hex_digit, byte_text, dump_from};
 
-use std::alloc::AllocError;
 use super::tops::Tops;
 use market::board::Quote;
+use std::alloc::AllocError;
 use std::fmt;
 use values::calls::Call;
 use values::faults::Fault;

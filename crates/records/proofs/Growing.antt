@@ -1,8 +1,8 @@
 -- A list grows by nothing, and by one batch after another. Assumes nothing.
-use Rattle.std.proofs.Common.{◌≡◌, ℕ, ◌+◌, List, [], ◌∷◌, ◌++◌, length, sym, refl, ap, ◌∙◌, arith, length-append}
+use Rattle.std.proofs.Common.{List, [], ◌++◌, sym, refl, ap, ◌∙◌, arith, length-append}
 use Rattle.std.proofs.lemmas.List.{append_assoc, append-nil}
 use Rattle.records.specs.declared.list.AppendList.{AppendList}
-use Rattle.records.specs.Contents.{contents, used, capacity, Grown}
+use Rattle.records.specs.Contents.{contents, Grown}
 
 module _ {T : Type 0} where
   pub grown_none : (l : AppendList T) → Grown l [] l

@@ -1,5 +1,5 @@
 -- The day is a run, by computation: the definitions give exactly these reports, slips and faults. Assumes nothing.
-use Rattle.std.proofs.Common.{◌≡◌, false, refl, arith}
+use Rattle.std.proofs.Common.{false, refl, arith}
 use Rattle.market.specs.Rungs.{cents, first_from, step_up, bottom, last_below}
 use Rattle.values.specs.declared.faults.SeriesFault.TheVariants.{NotResting}
 use Rattle.values.specs.Codes.{of_series}

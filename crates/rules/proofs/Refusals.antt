@@ -2,7 +2,7 @@
 --     order_rows, order_room      an order that is accepted was checked; what the rows leave to it
 --     reply_fits                  a reply fills no more than its slip carries
 --     away_reports, cancel_reports, reply_reports     these calls have room for 128 reports
-use Rattle.std.proofs.Common.{◌≡◌, ℕ, ◌<◌, ◌≤◌, Bool, true, false, cond, not, ◌&&◌, ltb, leb, Some, None, Option, Result, sym, refl, ap, ◌∙◌, subst, arith}
+use Rattle.std.proofs.Common.{◌≡◌, ℕ, ◌<◌, ◌≤◌, Bool, true, false, cond, not, ◌&&◌, ltb, leb, Some, None, Option, Result, sym, refl, ap, ◌∙◌, subst}
 use Rattle.std.proofs.lemmas.Bool.{ltb-false, leb-false, both_ways}
 use Rattle.std.specs.declared.result.Result.TheVariants as result
 use Rattle.market.specs.declared.board.Quote.{Quote}

@@ -15,7 +15,6 @@ use Rattle.market.specs.declared.board.Quote.{Quote}
 use Rattle.market.specs.Quotes.{told, absent}
 use Rattle.values.specs.declared.terms.Side.{Side}
 use Rattle.values.specs.declared.terms.Side.TheVariants.{Buy, Sell}
-use Rattle.values.specs.declared.calls.Call.{Call}
 use Rattle.values.specs.declared.calls.Call.TheVariants as call
 use Rattle.values.specs.declared.reports.Report.{Report}
 use Rattle.values.specs.declared.reports.Slip.{Slip}

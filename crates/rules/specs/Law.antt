@@ -14,7 +14,6 @@
 --     Law                 every run is lawful and kept
 use Rattle.std.specs.Prelude.{◌≡◌, ℕ, suc, ◌+◌, ◌-◌, ◌<◌, ◌≤◌, Bool, ◌≢◌, List, [], ◌∷◌, length}
 use Rattle.std.specs.List.{ContainsAt as Has, AllByRecursion as All}
-use Rattle.values.specs.declared.terms.Side.{Side}
 use Rattle.values.specs.declared.terms.Side.TheVariants.{Buy, Sell}
 use Rattle.values.specs.declared.calls.Call.{Call}
 use Rattle.values.specs.declared.calls.Call.TheVariants as call

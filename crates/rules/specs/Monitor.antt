@@ -7,7 +7,7 @@
 --     protect R s n p                 the protection limit, n rungs past the national best p of the other side
 --     admit R e m o                   what the order o is entered with
 -- n is the national best, m the best displayed here, e the away best.
-use Rattle.std.specs.Prelude.{ℕ, ◌+◌, ◌*◌, Bool, true, false, cond, not, ◌&&◌, ◌||◌, Some, None, Option, Result, ◌==◌, nat_le, nat_lt}
+use Rattle.std.specs.Prelude.{ℕ, ◌+◌, ◌*◌, Bool, false, cond, not, ◌&&◌, ◌||◌, Some, None, Option, Result, ◌==◌, nat_le, nat_lt}
 use Rattle.std.specs.declared.result.Result.TheVariants as result
 use Rattle.market.specs.Rungs.{bottom}
 use Rattle.values.specs.declared.terms.Side.{Side}

@@ -3,7 +3,7 @@
 --     later a o, earlier x y  o rests and arrived after a; x arrived before y
 --     turns n e R a old b     step three: each order that arrived after a has its turn, in arrival order, and is never routed
 --     quote e R b             both steps; `old` is the book before them
-use Rattle.std.specs.Prelude.{ℕ, zero, suc, Bool, cond, ◌&&◌, List, [], ◌++◌, map, length, set, nat_lt, slice_set}
+use Rattle.std.specs.Prelude.{ℕ, zero, suc, Bool, cond, ◌&&◌, List, [], ◌++◌, map, length, nat_lt, slice_set}
 use Rattle.rules.specs.declared.Order.{Order}
 use Rattle.rules.specs.declared.Bests.{Bests}
 use Rattle.rules.specs.Sides.{ok, facing}

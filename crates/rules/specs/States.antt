@@ -13,7 +13,6 @@ use Rattle.market.specs.declared.board.Quote.{Quote}
 use Rattle.market.specs.Quotes.{told, absent}
 use Rattle.values.specs.declared.reports.Report.{Report}
 use Rattle.values.specs.declared.reports.Report.TheVariants.{Cancelled, FilledAway}
-use Rattle.values.specs.declared.reports.Cause.{Cause}
 use Rattle.values.specs.declared.reports.Cause.TheVariants.{Asked, Unfilled}
 use Rattle.values.specs.declared.reports.Slip.{Slip}
 use Rattle.checks.specs.declared.checked.CheckedOrder.{CheckedOrder}

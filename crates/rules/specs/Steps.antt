@@ -3,7 +3,7 @@
 --     order_in R f        the order that these fields say
 --     Step R s e s'       s comes to s' by the event e
 --     Run R wide h s      a new series comes to s by the events of h, the latest first
-use Rattle.std.specs.Prelude.{◌≡◌, ℕ, ◌<◌, Bool, List, [], ◌∷◌, length, Some, None, Option, Result}
+use Rattle.std.specs.Prelude.{◌≡◌, ℕ, ◌<◌, Bool, List, [], ◌∷◌, length, Some, None, Result}
 use Rattle.std.specs.declared.result.Result.TheVariants as result
 use Rattle.market.specs.declared.board.Quote.{Quote}
 use Rattle.values.specs.declared.terms.Side.TheVariants.{Buy}

@@ -1,6 +1,8 @@
 //! The rulebook as definitions in specs/, over the values below: what each call makes of a series, which calls are
 //! refused and why, and the law that every run of calls keeps. The series and the law cite these definitions.
 //! Knows ladders by their rungs and boards by their quotes alone; nothing here carries a call out.
+#![tactic(auto)]
+
 ghost use Rattle.rules.specs.Day.{OneDay};
 
 use values::reports::Slip;

@@ -1,4 +1,6 @@
 //! A day of one series: each call's reports and then its slips, or its fault.
+#![tactic(auto)]
+
 use day::put_day;
 use lines::records::INPUT_LIMIT;
 use std::io::Write;

@@ -1,5 +1,5 @@
 -- From what the ledger did to a step of the rules. Assumes nothing.
-use Rattle.std.proofs.Common.{◌≡◌, ℕ, ◌+◌, ◌-◌, Bool, List, [], ◌∷◌, ◌++◌, Some, None, Ok, Err, Result, sym, refl, ap, ◌∙◌, subst, arith}
+use Rattle.std.proofs.Common.{◌≡◌, ℕ, ◌+◌, ◌-◌, Bool, List, [], ◌++◌, Some, Ok, Err, Result, sym, refl, ap, ◌∙◌, subst, arith}
 use Rattle.market.specs.declared.board.Quote.{Quote}
 use Rattle.market.specs.Quotes.{told}
 use Rattle.values.specs.declared.calls.Call.{Call}
@@ -12,19 +12,19 @@ use Rattle.values.specs.declared.reports.Slip.{Slip}
 use Rattle.values.specs.Codes.{of_check, of_series}
 use Rattle.checks.specs.declared.checked.CheckedCall.TheVariants as checked
 use Rattle.checks.specs.declared.checked.CheckedCall.{CheckedCall}
-use Rattle.checks.specs.Checked.{checked_call, checked_away, checked_cancel, checked_reply}
+use Rattle.checks.specs.Checked.{checked_away, checked_cancel, checked_reply}
 use Rattle.records.specs.declared.list.AppendList.{AppendList}
-use Rattle.records.specs.Contents.{contents, used, capacity, Grown}
+use Rattle.records.specs.Contents.{contents, Grown}
 use Rattle.rules.specs.declared.Room.{Room}
 use Rattle.rules.specs.declared.Bests.{Bests}
 use Rattle.rules.specs.Routing.{bests}
 use Rattle.rules.specs.Quoting.{quote}
 use Rattle.rules.specs.States.{State, new, opening, telling, dropping, replying}
-use Rattle.rules.specs.Faults.{rows, refusal}
+use Rattle.rules.specs.Faults.{refusal}
 use Rattle.rules.specs.Steps.{Step, Run}
 use Rattle.rules.specs.Steps.Step.{opened, told as step-told, dropped, replied, left}
 use Rattle.rules.specs.Steps.Run.{start}
-use Rattle.rules.specs.Steps.Event.{did, refused}
+use Rattle.rules.specs.Steps.Event.{did}
 use Rattle.series.specs.States.{requoted}
 use Rattle.series.specs.Calls.{Came, Lent}
 use Rattle.series.specs.Rows.{open_row, away_row, cancel_row, reply_row}

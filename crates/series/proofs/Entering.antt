@@ -1,8 +1,7 @@
 -- From an order's checks, rows and monitor to a step of the rules. Assumes nothing.
-use Rattle.std.proofs.Common.{◌≡◌, ℕ, suc, ◌<◌, ◌≤◌, Bool, true, false, cond, not, ◌&&◌, ltb, leb, List, [], ◌∷◌, ◌++◌, length, Some, None, Ok, Err, Option, Result, sym, refl, ap, ◌∙◌, subst, arith}
+use Rattle.std.proofs.Common.{◌≡◌, ℕ, suc, ◌<◌, ◌≤◌, Bool, true, false, cond, not, ◌&&◌, ltb, leb, List, ◌++◌, length, Some, None, Ok, Err, Option, sym, refl, ap, ◌∙◌, subst, arith}
 use Rattle.std.proofs.lemmas.Bool.{ltb-false, leb-false}
 use Rattle.market.specs.declared.board.Quote.{Quote}
-use Rattle.market.specs.Rungs.{bottom}
 use Rattle.values.specs.declared.terms.Kind.{Kind}
 use Rattle.values.specs.declared.calls.OrderFields.{OrderFields}
 use Rattle.values.specs.declared.calls.Call.TheVariants as call
@@ -22,8 +21,7 @@ use Rattle.records.specs.Contents.{contents}
 use Rattle.rules.specs.declared.Room.{Room}
 use Rattle.rules.specs.declared.Bests.{Bests}
 use Rattle.rules.specs.Book.{free, at, branch, taken, here}
-use Rattle.rules.specs.Sides.{facing, national}
-use Rattle.rules.specs.Monitor.{objection, granted, ruled, protect, admit}
+use Rattle.rules.specs.Monitor.{ruled, admit}
 use Rattle.rules.specs.Routing.{bests, routing}
 use Rattle.rules.specs.Resting.{enter}
 use Rattle.rules.specs.Slips.{vacancies}

@@ -1,9 +1,8 @@
 -- The quote of an exchange, counted from 0; the rungs behind the away best. Assumes nothing.
-use Rattle.std.proofs.Common.{◌≡◌, ℕ, ◌+◌, ◌-◌, ◌<◌, Bool, cond, List, get_or, refl, ap, ◌∙◌, arith}
+use Rattle.std.proofs.Common.{◌≡◌, ℕ, ◌+◌, ◌-◌, ◌<◌, Bool, cond, List, get_or, ap, ◌∙◌, arith}
 use Rattle.market.specs.declared.board.Quote.{Quote}
 use Rattle.market.specs.Quotes.{absent, quoted}
 use Rattle.market.proofs.Packs.{here_in}
-use Rattle.values.specs.declared.terms.Side.{Side}
 use Rattle.values.specs.declared.terms.Side.TheVariants.{Buy, Sell}
 use Rattle.rules.specs.Ladders.{beneath, above}
 use Rattle.table.specs.declared.sides.Away.{Away}

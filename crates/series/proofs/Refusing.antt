@@ -1,8 +1,7 @@
 -- The fault table call by call. Assumes nothing.
-use Rattle.std.proofs.Common.{◌≡◌, ℕ, ◌<◌, ◌≤◌, Bool, true, false, cond, not, ltb, Some, None, Ok, Err, Option, Result, sym, refl, ap, ◌∙◌, arith}
+use Rattle.std.proofs.Common.{◌≡◌, ℕ, Bool, true, false, cond, not, ltb, Some, None, Ok, Err, Option, Result, refl, ap, ◌∙◌, arith}
 use Rattle.market.specs.declared.board.Quote.{Quote}
 use Rattle.values.specs.declared.calls.Call.{Call}
-use Rattle.values.specs.declared.calls.Call.TheVariants as call
 use Rattle.values.specs.declared.faults.Fault.{Fault}
 use Rattle.values.specs.declared.faults.CheckFault.{CheckFault}
 use Rattle.values.specs.declared.faults.SeriesFault.{SeriesFault}

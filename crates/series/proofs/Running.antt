@@ -1,12 +1,12 @@
 -- A run, ask by ask. Assumes nothing.
-use Rattle.std.proofs.Common.{◌≡◌, ℕ, ◌+◌, ◌<◌, ◌≤◌, Bool, List, [], ◌∷◌, ◌++◌, map, reverse, length, get_or, take, sym, refl, ap, ◌∙◌, subst}
+use Rattle.std.proofs.Common.{◌≡◌, ℕ, ◌+◌, ◌<◌, ◌≤◌, Bool, List, [], ◌∷◌, map, reverse, length, get_or, take, sym, ap, ◌∙◌, subst}
 use Rattle.std.proofs.lemmas.List.{take_more, take_all, map_push, reverse-append}
 use Rattle.values.specs.declared.calls.Call.{Call}
 use Rattle.values.specs.declared.calls.Call.TheVariants.{Open}
 use Rattle.rules.specs.declared.Room.{Room}
 use Rattle.rules.specs.Ladders.{Rungs}
 use Rattle.rules.specs.States.{State}
-use Rattle.rules.specs.Steps.{Event, Step, Run}
+use Rattle.rules.specs.Steps.{Event, Run}
 use Rattle.rules.specs.Steps.Run.{next}
 use Rattle.law.proofs.Whole.{law}
 use Rattle.series.specs.declared.runs.Ask.{Ask}

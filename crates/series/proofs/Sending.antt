@@ -1,5 +1,5 @@
 -- The slips of an entry: the last of their list, and at most fifteen. Assumes nothing.
-use Rattle.std.proofs.Common.{◌≡◌, ℕ, suc, ◌+◌, ◌-◌, ◌<◌, ◌≤◌, min, Bool, true, false, cond, List, [], ◌∷◌, ◌++◌, length, take, drop, sym, refl, ap, ◌∙◌, subst, add-one, arith, length-append, length-drop, length-take}
+use Rattle.std.proofs.Common.{◌≡◌, ℕ, suc, ◌+◌, ◌-◌, ◌≤◌, Bool, true, false, cond, List, ◌++◌, length, take, drop, ap, ◌∙◌, subst, add-one, arith, length-drop, length-take}
 use Rattle.std.proofs.lemmas.List.{take_all, drop-append-le, drop_all}
 use Rattle.market.specs.declared.board.Quote.{Quote}
 use Rattle.values.specs.declared.reports.Slip.{Slip}

@@ -5,7 +5,7 @@
 --     entry_row s o m k           the row before the monitor that refuses the order o, if any
 --     Placed s o m k r            r has a free place for the order, or that row
 -- m is the room of the report list, k that of the slip list.
-use Rattle.std.specs.Prelude.{◌≡◌, ℕ, ◌<◌, ◌≤◌, Bool, true, false, cond, not, ◌&&◌, Some, None, Ok, Err, Option, Result, nat_le, nat_lt}
+use Rattle.std.specs.Prelude.{◌≡◌, ℕ, ◌<◌, Bool, cond, not, ◌&&◌, Some, None, Ok, Err, Option, Result, nat_le, nat_lt}
 use Rattle.values.specs.declared.faults.SeriesFault.{SeriesFault}
 use Rattle.values.specs.declared.faults.SeriesFault.TheVariants.{NotOpen, AlreadyOpen, NoRoomForReports, NoRoomForSlips, IdInUse, BookFull, AllArrivalsUsed, TooFewSlipsFree, NotResting, SlipNotOut, FilledAboveSize}
 use Rattle.checks.specs.declared.checked.CheckedOrder.{CheckedOrder}

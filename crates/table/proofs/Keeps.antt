@@ -1,14 +1,9 @@
 -- The table stays clean where one order is changed. Assumes nothing.
-use Rattle.std.proofs.Common.{◌≡◌, ℕ, ◌+◌, ◌-◌, ◌<◌, ◌≤◌, Bool, true, false, cond, ltb, ◌≢◌, List, length, get_or, set, replicate, sym, refl, ap, ◌∙◌, subst, ⊎_elim, arith, get_or-set_other, get_or-set_same}
+use Rattle.std.proofs.Common.{◌≡◌, ℕ, ◌+◌, ◌-◌, ◌<◌, ◌≤◌, false, ltb, ◌≢◌, List, length, set, replicate, refl, ap, ◌∙◌, subst, ⊎_elim, arith, get_or-set_other, get_or-set_same}
 use Rattle.std.proofs.lemmas.List.{get_or-replicate, get_or_past, length-replicate}
 use Rattle.std.proofs.lemmas.Bool.{cases_eq, cases_lt, lt-ltb, ltb-true, both_ways, cond_both}
-use Rattle.values.specs.declared.terms.Side.{Side}
-use Rattle.values.specs.declared.terms.Side.TheVariants.{Buy, Sell}
 use Rattle.rules.specs.declared.Order.{Order}
-use Rattle.rules.specs.Sides.{ok, facing}
-use Rattle.rules.specs.Book.{free, at, Live, live, lower, with_rem, priced, side_of}
-use Rattle.table.specs.declared.sides.Away.{Away}
-use Rattle.table.specs.Away.{clamped, backed}
+use Rattle.rules.specs.Book.{free, at, Live, live, lower, with_rem}
 use Rattle.table.specs.Places.{Whole, Clean, FreeFrom}
 
 pub clean_set : (b : List Order) (i : ℕ) (o : Order) → i < length b → Clean b → Whole o → Clean (set b i o)

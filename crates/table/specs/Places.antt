@@ -5,7 +5,7 @@
 --     Inside o            a place that was found is one of the 64
 --     ahead c lt b k o    place k is taken before the place o that the search holds
 --     Vacant b o          o is a place that holds nothing, or none is free
-use Rattle.std.specs.Prelude.{◌≡◌, ℕ, ◌<◌, ◌≤◌, Bool, true, false, ◌&&◌, List, Some, None, Option}
+use Rattle.std.specs.Prelude.{◌≡◌, ℕ, ◌<◌, ◌≤◌, Bool, false, ◌&&◌, List, Some, None, Option}
 use Rattle.rules.specs.declared.Order.{Order}
 use Rattle.rules.specs.declared.Sent.{Sent}
 use Rattle.rules.specs.Book.{free, at, live, taken}

@@ -8,13 +8,13 @@ ghost use Rattle.phrases.specs.Refusals.{fault_words};
 ghost use Rattle.telling.specs.Fields.{field_of, field_part, place_words, at_field};
 ghost use Rattle.telling.specs.Paragraphs.{closing, done, number_words, refusal, ladder_words, width_words, settings_words, settled, unsettled, too_long};
 
-use std::alloc::AllocError;
 use super::fields::{field_after, field_of, put_shown};
 use checks::checked::Settings;
 use market::any::AnyLadder;
 use phrases::asked::Asked;
 use phrases::names::{FieldName, field_named};
 use phrases::refusals::Meaning;
+use std::alloc::AllocError;
 use values::calls::Call;
 use values::faults::Fault;
 use values::reports::{Report, Slip};
@@ -76,7 +76,12 @@ fn put_closing(out: &mut String, reports: &[Report]) -> Result<(), AllocError>
 }
 
 // A call that was carried out.
-pub fn put_done(out: &mut String, call: Call, reports: &[Report], slips: &[Slip]) -> Result<(), AllocError>
+pub fn put_done(
+    out: &mut String,
+    call: Call,
+    reports: &[Report],
+    slips: &[Slip],
+) -> Result<(), AllocError>
     ensures { OnOk result (string_bytes out.new ≡ string_bytes out.old ++ done call reports.now slips.now) }
 {
     put_asked(out, call)?;
@@ -140,7 +145,12 @@ fn put_refusal(out: &mut String, line: &[u8], fault: Fault) -> Result<(), AllocE
 }
 
 // A call that was refused.
-pub fn put_refused(out: &mut String, line: &[u8], call: Call, fault: Fault) -> Result<(), AllocError>
+pub fn put_refused(
+    out: &mut String,
+    line: &[u8],
+    call: Call,
+    fault: Fault,
+) -> Result<(), AllocError>
     ensures { OnOk result (string_bytes out.new ≡ string_bytes out.old ++ (asked_words call ++ refusal line.now fault)) }
 {
     put_asked(out, call)?;

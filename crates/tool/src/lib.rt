@@ -1,6 +1,8 @@
 //! How the programs are asked: by a file's name, by standard input, or for help.
 //! Promises nothing about what is read: a run shows it. What a program makes of its input is promised elsewhere.
 //! Knows no lines and no series.
+#![tactic(auto)]
+
 use anyhow::anyhow;
 use std::fs::File;
 use std::io::{Read, Write};
@@ -77,8 +79,6 @@ pub fn asked_input(
         Request::UnknownFlag(flag) => Err(anyhow!(
             "{program}: no flag {flag}; try {program} --help"
         )),
-        Request::TooMany => Err(anyhow!(
-            "{program}: one file at most; try {program} --help"
-        )),
+        Request::TooMany => Err(anyhow!("{program}: one file at most; try {program} --help")),
     }
 }

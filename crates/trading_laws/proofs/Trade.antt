@@ -17,7 +17,7 @@ use Rattle.rules.specs.declared.Order.{Order}
 use Rattle.rules.specs.declared.Prices.{Prices}
 use Rattle.rules.specs.declared.Bests.{Bests}
 use Rattle.rules.specs.Sides.{flip, Ok, facing}
-use Rattle.rules.specs.Book.{free, at, live, Live, side_of, with_rem, lower, taken}
+use Rattle.rules.specs.Book.{free, at, Live, side_of, with_rem, lower, taken}
 use Rattle.rules.specs.Trading.{Traded, hit, trade}
 use Rattle.rules.specs.Sizes.{share, part, resting, filled, away, cancelled, latest, news}
 use Rattle.rules.specs.Law.{Fair, StatesRest, Within}

@@ -16,7 +16,6 @@ use Rattle.values.specs.declared.calls.Call.{Call}
 use Rattle.values.specs.declared.calls.Call.TheVariants.{Open, Away, Order, Cancel, Reply}
 use Rattle.values.specs.declared.faults.Layer.{Layer}
 use Rattle.values.specs.declared.faults.Layer.TheVariants as layer
-use Rattle.values.specs.declared.faults.Code.{Code}
 use Rattle.values.specs.declared.faults.Fault.{Fault}
 use Rattle.values.specs.declared.reports.Report.{Report}
 use Rattle.values.specs.declared.reports.Report.TheVariants.{New, Fill, Booked, Cancelled, FilledAway}

@@ -4,12 +4,12 @@ ghost use Rattle.std.specs.List.{flat_map};
 ghost use Rattle.values.specs.Codes.{number_of};
 ghost use Rattle.values.specs.Texts.{capital, letter_text, letters_text, initial, layer_text, report_text, slip_text, fault_text, header_text, order_text, call_text, ended};
 
-use std::alloc::AllocError;
 use super::calls::{Call, Header, OrderFields};
 use super::faults::{Code, Fault, Layer};
 use super::reports::{Cause, Report, Slip};
 use super::terms::Letter;
 use market::board::Quote;
+use std::alloc::AllocError;
 use std::fmt;
 
 impl Letter {

@@ -1,4 +1,4 @@
-use Rattle.std.proofs.Common.{◌≡◌, ◌++◌, arith, rules}
+use Rattle.std.proofs.Common.{rules}
 use Rattle.records.proofs.Growing.{grown_more}
 use Rattle.book.proofs.Sharing.{going_on, going_ends}
 use Rattle.book.proofs.routing.share_out.Goals as goal

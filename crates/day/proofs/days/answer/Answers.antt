@@ -1,5 +1,5 @@
-use Rattle.std.proofs.Common.{sym, refl, ◌∙◌, rules}
-use Rattle.std.proofs.lemmas.Result.{IfOk-weaker, IfOk-at_ok}
+use Rattle.std.proofs.Common.{sym, refl, ◌∙◌}
+use Rattle.std.proofs.lemmas.Result.{IfOk-weaker}
 use Rattle.day.specs.Days.Outcome.{unread, came}
 use Rattle.rules.specs.Steps.Event.{did, refused}
 use Rattle.day.proofs.Answering.{both_written, full_room}

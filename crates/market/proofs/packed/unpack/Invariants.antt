@@ -1,4 +1,4 @@
-use Rattle.std.proofs.Common.{◌≡◌, ℕ, ◌*◌, ◌<◌, ◌≤◌, length, get_or}
+use Rattle.std.proofs.Common.{◌≡◌, ℕ, ◌*◌, ◌<◌, length, get_or}
 use Rattle.market.specs.Quotes.{absent}
 use Rattle.market.specs.Packing.{quote_at}
 use Rattle.market.proofs.packed.unpack.Given as goal

@@ -1,4 +1,4 @@
-use Rattle.std.proofs.Common.{sym, refl, ◌∙◌, rules}
+use Rattle.std.proofs.Common.{refl, rules}
 use Rattle.market.specs.Quotes.{quoted}
 use Rattle.morning.proofs.Agreeing.{compared_more, compared_all}
 use Rattle.morning.proofs.answers.agree.Goals as goal

@@ -1,6 +1,6 @@
 use Rattle.std.proofs.Common.{Ok, sym, ap, ◌∙◌}
 use Rattle.std.proofs.lemmas.Result.{IfOk-weaker}
-use Rattle.morning.specs.Mornings.{taken, after}
+use Rattle.morning.specs.Mornings.{after}
 use Rattle.morning.proofs.Sofar.{told_answer}
 use Rattle.morning.proofs.answers.answer.Goals as goal
 

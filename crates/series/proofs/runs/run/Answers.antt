@@ -1,8 +1,7 @@
-use Rattle.std.proofs.Common.{◌≡◌, ℕ, ◌<◌, Bool, List, [], length, get_or, sym, refl, ap, ◌∙◌, subst, arith}
+use Rattle.std.proofs.Common.{ℕ, ◌<◌, Bool, [], length, get_or, refl, ap, ◌∙◌, subst, arith}
 use Rattle.rules.specs.Ladders.{Rungs}
-use Rattle.rules.specs.Steps.{Event, Run}
 use Rattle.series.specs.Calls.{stands}
-use Rattle.series.specs.Runs.{Took, Ran}
+use Rattle.series.specs.Runs.{Ran}
 use Rattle.series.proofs.Coming.{began}
 use Rattle.series.proofs.Running.{took_as, no_ask, ran_more, ran_all}
 use Rattle.series.proofs.runs.run.Goals as goal

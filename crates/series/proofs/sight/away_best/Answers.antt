@@ -1,4 +1,4 @@
-use Rattle.std.proofs.Common.{◌≡◌, ℕ, sym, refl, ap, ◌∙◌}
+use Rattle.std.proofs.Common.{◌≡◌, ℕ, sym, ap, ◌∙◌}
 use Rattle.rules.specs.declared.Bests.{Bests}
 use Rattle.rules.specs.Routing.{bests}
 use Rattle.rules.proofs.Rungs.{beneath_answer, above_answer}

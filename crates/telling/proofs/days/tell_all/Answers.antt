@@ -1,4 +1,4 @@
-use Rattle.std.proofs.Common.{ℕ, Bool, sym, ap, ◌∙◌, subst, arith}
+use Rattle.std.proofs.Common.{ℕ, Bool, ap, ◌∙◌, subst, arith}
 use Rattle.series.specs.Calls.{stands}
 use Rattle.day.specs.Days.{Moves}
 use Rattle.telling.proofs.Onward.{onward_more, onward_end}

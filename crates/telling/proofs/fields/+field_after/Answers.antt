@@ -1,5 +1,5 @@
 use Rattle.std.proofs.Common.{◌∙◌, arith}
-use Rattle.telling.proofs.Cuts.{Cut, field_first, field_none, field_next}
+use Rattle.telling.proofs.Cuts.{field_first, field_none, field_next}
 use Rattle.telling.proofs.fields.+field_after.Goals as goal
 
 pub returns-then-tabs-eq0 : goal.returns-then-tabs-eq0

@@ -1,4 +1,4 @@
-use Rattle.std.proofs.Common.{[], ◌++◌, get_or, take, string_bytes, ap, ◌∙◌, ap₂}
+use Rattle.std.proofs.Common.{[], ◌++◌, get_or, take, string_bytes, ap, ◌∙◌}
 use Rattle.std.specs.List.{flat_map}
 use Rattle.std.proofs.lemmas.Result.{IfOk-weaker}
 use Rattle.lines.specs.Words.{fields}

@@ -1,4 +1,4 @@
-use Rattle.std.proofs.Common.{◌≡◌, [], ◌∷◌, ap, ◌∙◌, ap₂, append_assoc, arith}
+use Rattle.std.proofs.Common.{[], ◌∷◌, ap, ◌∙◌, ap₂, append_assoc, arith}
 use Rattle.values.specs.declared.faults.Code.{Code}
 use Rattle.values.specs.Texts.{number, initial}
 use Rattle.values.proofs.writing.gather_fault.Goals as goal

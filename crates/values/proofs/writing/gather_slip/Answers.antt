@@ -1,4 +1,4 @@
-use Rattle.std.proofs.Common.{◌≡◌, ◌∷◌, ap, ◌∙◌, append_assoc, arith}
+use Rattle.std.proofs.Common.{◌∷◌, ap, ◌∙◌, append_assoc, arith}
 use Rattle.values.specs.Texts.{number}
 use Rattle.values.proofs.writing.gather_slip.Goals as goal
 

@@ -1,4 +1,4 @@
-use Rattle.std.proofs.Common.{◌≡◌, ◌+◌, true, sym, ap, ◌∙◌, subst, inl, inr, arith, rules}
+use Rattle.std.proofs.Common.{◌+◌, sym, ap, ◌∙◌, subst, inl, inr, arith}
 use Rattle.rules.specs.Quoting.{later}
 use Rattle.std.proofs.lemmas.Bool.{cases_lt, both_ways}
 use Rattle.book.specs.Books.{orders_of}

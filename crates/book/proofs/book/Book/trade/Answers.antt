@@ -1,4 +1,4 @@
-use Rattle.std.proofs.Common.{◌≡◌, ℕ, suc, ◌+◌, ◌-◌, List, [], ◌∷◌, ◌++◌, length, sym, ap, ◌∙◌, subst, inl, inr, arith, rules}
+use Rattle.std.proofs.Common.{◌+◌, ◌-◌, [], ◌∷◌, ◌++◌, length, inl, inr, arith, rules}
 use Rattle.records.proofs.Growing.{grown_none, grown_more}
 use Rattle.book.specs.Books.{orders_of}
 use Rattle.book.proofs.Hits.{left_starts, left_ends, left_goes, left_room}

@@ -1,4 +1,4 @@
-use Rattle.std.proofs.Common.{◌≡◌, false, [], length, sym, ap, ◌∙◌}
+use Rattle.std.proofs.Common.{◌≡◌, false, length, sym, ap, ◌∙◌}
 use Rattle.rules.specs.Sides.{facing}
 use Rattle.rules.specs.Book.{side_of}
 use Rattle.rules.specs.Trading.{fits}

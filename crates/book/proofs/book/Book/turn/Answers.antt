@@ -1,4 +1,4 @@
-use Rattle.std.proofs.Common.{◌≡◌, length, ◌∙◌, arith, rules}
+use Rattle.std.proofs.Common.{length, ◌∙◌, arith, rules}
 use Rattle.book.specs.Books.{orders_of}
 use Rattle.book.proofs.Idling.{bounds_free, bounds_turn}
 use Rattle.book.proofs.Room.{leave_room, turn_spends}

@@ -1,4 +1,4 @@
-use Rattle.std.proofs.Common.{◌≡◌, ◌+◌, [], ◌++◌, length, sym, ap, ◌∙◌, subst, arith, rules}
+use Rattle.std.proofs.Common.{[], sym, ap, ◌∙◌, subst, rules}
 use Rattle.records.proofs.Growing.{grown_none, grown_more}
 use Rattle.trading_laws.proofs.Telling.{later_parts}
 use Rattle.trading_laws.proofs.Skipping.{found_waits}

@@ -1,4 +1,4 @@
-use Rattle.std.proofs.Common.{◌≡◌, ◌+◌, ◌*◌, ◌≤◌, [], sym, refl, ap, ◌∙◌, arith}
+use Rattle.std.proofs.Common.{◌+◌, ◌*◌, ◌≤◌, [], arith}
 use Rattle.series.specs.States.{state}
 use Rattle.series.proofs.Sending.{sent_few, admitted}
 use Rattle.series.proofs.ledger.Ledger.enter.Goals as goal

@@ -1,4 +1,4 @@
-use Rattle.std.proofs.Common.{◌≡◌, List, refl, ap, ◌∙◌}
+use Rattle.std.proofs.Common.{List, refl, ap, ◌∙◌}
 use Rattle.market.specs.declared.board.Quote.{Quote}
 use Rattle.series.specs.States.{state}
 use Rattle.series.proofs.Coming.{began}

@@ -1,8 +1,7 @@
-use Rattle.std.proofs.Common.{◌≡◌, ℕ, ◌+◌, ◌<◌, ◌≤◌, length, sym, refl, ap, ◌∙◌, arith}
+use Rattle.std.proofs.Common.{ℕ, ◌<◌, length, sym, refl, ap, ◌∙◌, arith}
 use Rattle.std.proofs.lemmas.Result.{err_from_is_err_and}
 use Rattle.rules.specs.declared.Bests.{Bests}
 use Rattle.rules.specs.Book.{here}
-use Rattle.records.specs.Contents.{used, capacity}
 use Rattle.series.specs.Calls.{free_places}
 use Rattle.series.specs.States.{state}
 use Rattle.series.specs.Rows.{entry_row}

@@ -1,4 +1,4 @@
-use Rattle.std.proofs.Common.{◌≡◌, length-set, rules}
+use Rattle.std.proofs.Common.{length-set, rules}
 use Rattle.table.proofs.Keeps.{clean_set, free_set}
 use Rattle.table.proofs.orders.Orders.clear.Goals as goal
 

@@ -1,5 +1,5 @@
 use Rattle.std.proofs.Common.{◌≡◌, ◌≤◌, take}
-use Rattle.rules.specs.Book.{live, taken}
+use Rattle.rules.specs.Book.{taken}
 use Rattle.table.proofs.orders.Orders.count.Given as goal
 
 abbrev pub invariant-loop-i : goal.invariant-loop-i

@@ -1,4 +1,4 @@
-use Rattle.std.proofs.Common.{arith, length-set, rules}
+use Rattle.std.proofs.Common.{length-set, rules}
 use Rattle.table.proofs.Keeps.{clean_set, whole_live, free_put}
 use Rattle.table.proofs.orders.Orders.put.Goals as goal
 

@@ -1,4 +1,4 @@
-use Rattle.std.proofs.Common.{◌≡◌, ◌<◌, length, ap, subst, rules}
+use Rattle.std.proofs.Common.{◌<◌, length, ap, subst, rules}
 use Rattle.rules.specs.Book.{live, taken}
 use Rattle.std.proofs.lemmas.List.Sums.{count_by_more_yes}
 use Rattle.table.proofs.Counts.{taken_all, taken_less}
