@@ -1,6 +1,6 @@
 // The field checks of a header and of every call. All of row 4 is judged before row 5, and row 5 before row 6.
 ghost use Rattle.std.specs.Prelude.{◌≡◌};
-ghost use Rattle.checks.specs.Checked.{checked_header, checked_away, checked_order, checked_cancel, checked_reply, checked_call, routable as may-be-routed};
+ghost use Rattle.checks.specs.Checked.{checked_header, checked_away, checked_order, checked_cancel, checked_reply, checked_call, routable as may_be_routed};
 ghost use Rattle.checks.specs.Law.{HeaderJudged, CallJudged};
 
 use super::checked::{CheckedCall, CheckedOrder, Settings};
@@ -113,7 +113,7 @@ fn by_kind<L: Ladder>(ladder: &L, call: Call) -> Result<CheckedCall, CheckFault>
 impl CheckedOrder {
     // A public customer's order that may be routed.
     pub fn routable(&self) -> bool
-        ensures { result ≡ may-be-routed self.now }
+        ensures { result ≡ may_be_routed self.now }
     {
         match (self.origin, self.mark) {
             (Origin::Customer, Mark::Route) => true,

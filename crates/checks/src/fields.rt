@@ -1,13 +1,13 @@
 // One number judged by itself.
 ghost use Rattle.std.specs.Prelude.{◌≡◌};
-ghost use Rattle.checks.specs.Fields.{within as judged-within, wide_by, size_beside, limit_by, on_ladder, handled as judged-kind};
+ghost use Rattle.checks.specs.Fields.{within as judged_within, wide_by, size_beside, limit_by, on_ladder, handled as judged_kind};
 
 use market::ladder::Ladder;
 use values::faults::CheckFault;
 use values::terms::Kind;
 
 pub(crate) fn within(low: u32, high: u32, field: u32, n: u32) -> Result<u32, CheckFault>
-    ensures { result ≡ judged-within low high field n }
+    ensures { result ≡ judged_within low high field n }
 {
     if low <= n && n <= high {
         Ok(n)
@@ -59,7 +59,7 @@ pub(crate) fn on_ladder<L: Ladder>(ladder: &L, field: u32, price: u32) -> Result
 }
 
 pub(crate) fn handled(kind: Kind) -> Result<Kind, CheckFault>
-    ensures { result ≡ judged-kind kind }
+    ensures { result ≡ judged_kind kind }
 {
     match kind {
         Kind::Limit | Kind::Market => Ok(kind),

@@ -1,7 +1,7 @@
 -- The readings that the rulebook denies. Assumes nothing.
 use Rattle.std.proofs.Common.{◌≡◌, ℕ, false, List, [], ◌∷◌, Some, None, Option, refl, ap, subst, arith}
 use Rattle.market.specs.Rungs.{cents}
-use Rattle.market.specs.Quotes.{told as told-to}
+use Rattle.market.specs.Quotes.{told as told_to}
 use Rattle.values.specs.declared.terms.Side.TheVariants.{Sell}
 use Rattle.values.specs.declared.terms.Kind.TheVariants.{Limit}
 use Rattle.values.specs.declared.calls.Call.TheVariants as call
@@ -63,7 +63,7 @@ pub buy_76_not_refused : Denied (market 0 51) (refused (call.Order (buy 71 76 10
 unfolding rulebook
 buy_76_not_refused = (open_with false (quoting 0 51) [] 0, market_run false 0 51 refl refl, λ s' x. none_is_not_some (left_says x))
 
-pub not_before_all_are_repriced : (s : State) × Run cents false crossed s × ((quote_at_once (bests (told-to s.quotes 1 (quoting 108 112))) cents s.orders).out ≡ Fill 1 2 106 5 ∷ [])
+pub not_before_all_are_repriced : (s : State) × Run cents false crossed s × ((quote_at_once (bests (told_to s.quotes 1 (quoting 108 112))) cents s.orders).out ≡ Fill 1 2 106 5 ∷ [])
 unfolding rulebook quote_at_once turns_at_once
 not_before_all_are_repriced = (at_crossed, crossed_run, refl)
 

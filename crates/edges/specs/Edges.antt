@@ -20,7 +20,7 @@ use Rattle.rules.specs.States.{State}
 use Rattle.rules.specs.Steps.{Event, Run, order_in}
 use Rattle.rules.specs.Steps.Event.{refused}
 use Rattle.rules.specs.Day.{room}
-use Rattle.market.specs.Quotes.{told as told-to}
+use Rattle.market.specs.Quotes.{told as told_to}
 use Rattle.edges.specs.Calls.{quoting, buy, sell, market_buy, market_sell, told, entered, market, Comes, Passes, Refused, Shows, Denied}
 use Rattle.edges.specs.Readings.{too_high_halved, objection_booked, quote_at_once}
 
@@ -109,6 +109,6 @@ pub record Edges : Type 0 where
   -- WRONG: trading before every order has been re-priced. The sell would be hit at 106, under the new away bid 108
   pub not_before_all_are_repriced :
       (s : State) × Run cents false crossed s
-      × ((quote_at_once (bests (told-to s.quotes 1 (quoting 108 112))) cents s.orders).out ≡ Fill 1 2 106 5 ∷ [])
+      × ((quote_at_once (bests (told_to s.quotes 1 (quoting 108 112))) cents s.orders).out ≡ Fill 1 2 106 5 ∷ [])
   pub repriced_to_108 : Comes cents false (told 1 108 112 (Fill 1 2 108 5 ∷ []) ∷ crossed)
   pub not_filled_at_106 : Denied crossed (told 1 108 112 (Fill 1 2 106 5 ∷ []))

@@ -5,7 +5,7 @@ use Rattle.std.proofs.Common.{◌≡◌, ℕ, suc, ◌+◌, ◌<◌, ◌≤◌, 
 use Rattle.std.proofs.lemmas.Bool.{cond_both, eqb-true, eqb-false, eq-eqb, ne_eqb}
 use Rattle.std.proofs.lemmas.List.Sums.{sum_by-append}
 use Rattle.std.proofs.ByRecursion.{All-append, All-weaker, all-has, all_has_itself, has_append_left, has_append_right}
-use Rattle.std.specs.List.{ContainsAt as Has, AllByRecursion as All}
+use Rattle.std.specs.List.{ContainsAt as Has, AllByRecursion}
 use Rattle.values.specs.declared.calls.OrderFields.{OrderFields}
 use Rattle.values.specs.declared.calls.Call.TheVariants as call
 use Rattle.values.specs.declared.reports.Slip.{Slip}
@@ -41,11 +41,11 @@ use Rattle.law.proofs.Fields.{order_id}
 use Rattle.law.proofs.Good.{SlipsGood, Good, here_same}
 
 -- ---- the slips
-pub slips_entered : (look other : ℕ → Terms) (L ss : List Slip) (n a id : ℕ) (b : List Sent) → ((x : ℕ) → x ≤ a → look x ≡ other x) → id ≡ (other (suc a)).id → Consecutive (suc n) ss → All (λ x. (0 < x.size) × (x.arrival ≡ suc a)) ss → length ss ≤ vacancies b → SlipsGood look L n a b → SlipsGood other (ss ++ L) (n + length ss) (suc a) (filed id ss b)
+pub slips_entered : (look other : ℕ → Terms) (L ss : List Slip) (n a id : ℕ) (b : List Sent) → ((x : ℕ) → x ≤ a → look x ≡ other x) → id ≡ (other (suc a)).id → Consecutive (suc n) ss → AllByRecursion (λ x. (0 < x.size) × (x.arrival ≡ suc a)) ss → length ss ≤ vacancies b → SlipsGood look L n a b → SlipsGood other (ss ++ L) (n + length ss) (suc a) (filed id ss b)
 slips_entered look other L ss n a id b same mine order each room g =
     let ids : ℕ → ℕ = λ x. (other x).id in
     let t = table_relook (Has L) (suc n) (λ x. (look x).id) ids b (λ x m. ap (λ w. w.id) (same x.arrival (all-has (λ y. y.arrival ≤ a) L x g.arrived m))) g.table in
-    let named : All (λ x. (0 < x.size) × (id ≡ ids x.arrival)) ss =
+    let named : AllByRecursion (λ x. (0 < x.size) × (id ≡ ids x.arrival)) ss =
     All-weaker (λ x. (0 < x.size) × (x.arrival ≡ suc a)) (λ x. (0 < x.size) × (id ≡ ids x.arrival)) (λ x m. (m.0, mine ∙ ap ids (sym m.1))) ss each
     in
     let more = filing (Has L) (suc n) ids id ss b order named room t in
@@ -173,7 +173,7 @@ module _ (R : ℕ → Bool) (h : List Event) (s : State) (g : Good R h s) (f : O
     sizes = sizes;
     prices = after.shows (λ n. price_in n h) (g.unheard (suc s.arrivals) (omega arith)) g.prices;
     unheard = λ n l. after.quiet n (price_in n h) (λ z. omega (arith, z, l)) ∙ g.unheard n (omega arith);
-    fills = (subst (λ w. All (Fair w look) r.out) (ap bests g.quotes) after.fair, g.fills);
+    fills = (subst (λ w. AllByRecursion (Fair w look) r.out) (ap bests g.quotes) after.fair, g.fills);
     stated = (states_same (λ n. resting n r.book) _ r.out (λ n. omega (arith, sizes n)) after.stated, g.stated);
     room = ((few, room.0, omega (arith, few, left.reports), omega (arith, room.0, left.slips)), g.room);
     counted = (after.announces ∙ ap₂ (λ (x y : ℕ). (x, y) ∷ []) (ap suc g.arrivals) announced_id, subst (λ k. Consecutive (suc k) r.slips) g.numbers shared.1.numbers, g.counted);

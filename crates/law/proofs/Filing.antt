@@ -4,7 +4,7 @@
 --     settling               freeing the place of one
 --     table_low              the slips are numbered below k
 use Rattle.std.proofs.Common.{◌≡◌, ℕ, suc, ◌+◌, ◌<◌, ◌≤◌, ◌≢◌, ◌⊎◌, List, [], ◌∷◌, length, set, sym, refl, ap, ◌∙◌, subst, inl, inr, arith, length-set, get_or-set_other, get_or-set_same}
-use Rattle.std.specs.List.{ContainsAt as Has, AllByRecursion as All}
+use Rattle.std.specs.List.{ContainsAt as Has, AllByRecursion}
 use Rattle.values.specs.declared.reports.Slip.{Slip}
 use Rattle.rules.specs.declared.Sent.{Sent}
 use Rattle.rules.specs.Slips.{no_sent, sent_at, OutThere, vacancies, file, filed}
@@ -76,14 +76,14 @@ module _ (M : Slip → Type 0) (look : ℕ → ℕ) (b : List Sent) (id : ℕ) (
       apart j k m n e (inr x) (inr y) = t.apart j k (subst OutThere x m) (subst OutThere y n) (ap (λ z. z.slip.number) (sym x) ∙ e ∙ ap (λ z. z.slip.number) y)
 
 -- ---- all the slips of an order
-pub length_filed : (id : ℕ) (ss : List Slip) (b : List Sent) → length ss ≤ vacancies b → All (λ x. 0 < x.size) ss → length (filed id ss b) ≡ length b
+pub length_filed : (id : ℕ) (ss : List Slip) (b : List Sent) → length ss ≤ vacancies b → AllByRecursion (λ x. 0 < x.size) ss → length (filed id ss b) ≡ length b
 unfolding filed
 length_filed id [] b room pos = refl
 length_filed id (s ∷ ss) b room pos =
     let p = file_is id s b (omega arith) in
     length_filed id ss (file id s b) (omega (arith, room, fewer_vacant id s b p.place p.within p.was pos.0, ap vacancies p.is)) pos.1 ∙ ap length p.is ∙ length-set b p.place (as_sent id s)
 
-pub filing : (M : Slip → Type 0) (k : ℕ) (look : ℕ → ℕ) (id : ℕ) (ss : List Slip) (b : List Sent) → Consecutive k ss → All (λ x. (0 < x.size) × (id ≡ look x.arrival)) ss → length ss ≤ vacancies b → Table M k look b → Table (λ x. M x ⊎ Has ss x) (k + length ss) look (filed id ss b)
+pub filing : (M : Slip → Type 0) (k : ℕ) (look : ℕ → ℕ) (id : ℕ) (ss : List Slip) (b : List Sent) → Consecutive k ss → AllByRecursion (λ x. (0 < x.size) × (id ≡ look x.arrival)) ss → length ss ≤ vacancies b → Table M k look b → Table (λ x. M x ⊎ Has ss x) (k + length ss) look (filed id ss b)
 unfolding filed
 filing M k look id [] b order each room t =
     subst (λ n. Table (λ x. M x ⊎ Has [] x) n look b) (omega arith) (table_same M (λ x. M x ⊎ Has [] x) k look b (λ x m. inl m) (λ x m. elim m [ inl y ↦ y | inr y ↦ absurd (has_none x y) ]) t)

@@ -8,7 +8,7 @@ use Rattle.std.proofs.Common.{◌≡◌, ℕ, suc, ◌+◌, ◌<◌, ◌≤◌, 
 use Rattle.std.proofs.lemmas.Bool.{eqb-true, eq-eqb, cases_lt, ltb-true, cond_both, lt-ltb}
 use Rattle.std.proofs.lemmas.List.Sums.{sum_by-cons, get_or-le-sum_by}
 use Rattle.std.proofs.ByRecursion.{All-weaker, all_has_itself}
-use Rattle.std.specs.List.{ContainsAt as Has, AllByRecursion as All}
+use Rattle.std.specs.List.{ContainsAt as Has, AllByRecursion}
 use Rattle.values.specs.declared.terms.Side.{Side}
 use Rattle.values.specs.declared.terms.Side.TheVariants.{Buy, Sell}
 use Rattle.values.specs.declared.reports.Slip.{Slip}
@@ -36,7 +36,7 @@ pub record SlipsGood (look : ℕ → Terms) (L : List Slip) (n a : ℕ) (b : Lis
   pub table : Table (Has L) (suc n) (λ x. (look x).id) b
   pub seats : length b ≡ 64
   pub unique : Unique L
-  pub arrived : All (λ x. x.arrival ≤ a) L
+  pub arrived : AllByRecursion (λ x. x.arrival ≤ a) L
 
 pub record BookGood (e : Bests) (look : ℕ → Terms) (n : ℕ) (b : List Order) : Type 0 where
   pub settled : Holds (Settled e look) b
@@ -60,7 +60,7 @@ pub record Good (R : ℕ → Bool) (h : List Event) (s : State) : Type 0 where
   pub unheard : (a : ℕ) → s.arrivals < a → price_in a h ≡ prices_of free
   pub fills : Fairly R h
   pub stated : Stated R h
-  pub room : All Roomy h
+  pub room : AllByRecursion Roomy h
   pub counted : Counted h
   pub answered : Answered h
 

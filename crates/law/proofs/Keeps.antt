@@ -5,7 +5,7 @@ use Rattle.std.proofs.lemmas.Bool.{cond_both, and_parts, ltb-true, eqb-true, eq-
 use Rattle.std.proofs.lemmas.List.Sums.{sum_by-set}
 use Rattle.std.proofs.ByRecursion.{all_kept_by}
 use Rattle.std.specs.Cmp.{IsStrictWeakOrder}
-use Rattle.std.specs.List.{ContainsAt as Has, AllByRecursion as All}
+use Rattle.std.specs.List.{ContainsAt as Has, AllByRecursion}
 use Rattle.market.specs.declared.board.Quote.{Quote}
 use Rattle.market.specs.Quotes as board
 use Rattle.values.specs.declared.calls.Call.{Call}
@@ -122,7 +122,7 @@ module _ (R : ℕ → Bool) (h : List Event) (s : State) (g : Good R h s) where
         prices = λ j l. let w = t.stems j l in
             ap (λ y. latest y (price_in y h) (quote e R b).out) w.1 ∙ t.shows j (price_in (at b j).arrival h) l (λ _. g.prices j w.0) (λ _. g.prices j w.0);
         unheard = λ a n. t.quiet a (price_in a h) (λ j l z. omega (arith, z, n, (k.numbered j l).1)) ∙ g.unheard a n;
-        fills = (subst (λ w. All (Fair w (entry R h)) (quote e R b).out) (ap bests told_same) t.fair, g.fills);
+        fills = (subst (λ w. AllByRecursion (Fair w (entry R h)) (quote e R b).out) (ap bests told_same) t.fair, g.fills);
         stated = (states_same (λ a. resting a (quote e R b).book) _ (quote e R b).out (λ a. omega (arith, sizes a)) t.stated, g.stated);
         room = ((few, omega arith, omega (arith, few, away_reports R s x q m fine), omega arith), g.room);
         counted = (t.nothing_new, tt, g.counted);

@@ -8,7 +8,7 @@ use Rattle.std.proofs.Common.{◌≡◌, ℕ, zero, suc, ◌+◌, ◌<◌, ◌�
 use Rattle.std.proofs.lemmas.Bool.{cond_both, eqb-false, eq-eqb, ne_eqb, not-true}
 use Rattle.std.proofs.ByRecursion.{All-append, All-weaker, all-has, all_kept_by}
 use Rattle.std.proofs.lemmas.List.Sums.{sum_by-cons}
-use Rattle.std.specs.List.{ContainsAt as Has, AllByRecursion as All}
+use Rattle.std.specs.List.{ContainsAt as Has, AllByRecursion}
 use Rattle.values.specs.declared.reports.Slip.{Slip}
 use Rattle.rules.specs.Sizes.{slip_part, slipped}
 use Rattle.rules.specs.Histories.{unanswered}
@@ -38,13 +38,13 @@ has_append_cases (s ∷ ss) ts x h = elim (has_cases s (ss ++ ts) x h) [
 -- ---- numbers
 abbrev pub Unique : List Slip → Type 0
 Unique [] = Unit {0}
-Unique (s ∷ ss) = All (λ x. x.number ≢ s.number) ss × Unique ss
+Unique (s ∷ ss) = AllByRecursion (λ x. x.number ≢ s.number) ss × Unique ss
 
-pub consecutive_from : (k : ℕ) (ss : List Slip) → Consecutive k ss → All (λ x. (k ≤ x.number) × (x.number < k + length ss)) ss
+pub consecutive_from : (k : ℕ) (ss : List Slip) → Consecutive k ss → AllByRecursion (λ x. (k ≤ x.number) × (x.number < k + length ss)) ss
 consecutive_from k [] h = tt
 consecutive_from k (s ∷ ss) h = ((omega (arith, h.0), omega (arith, h.0)), All-weaker (λ x. (suc k ≤ x.number) × (x.number < suc k + length ss)) (λ x. (k ≤ x.number) × (x.number < k + length (s ∷ ss))) (λ x m. (omega (arith, m.0), omega (arith, m.1))) ss (consecutive_from (suc k) ss h.1))
 
-pub unique_more : (k : ℕ) (ss ts : List Slip) → Consecutive k ss → All (λ x. x.number < k) ts → Unique ts → Unique (ss ++ ts)
+pub unique_more : (k : ℕ) (ss ts : List Slip) → Consecutive k ss → AllByRecursion (λ x. x.number < k) ts → Unique ts → Unique (ss ++ ts)
 unique_more k [] ts h low u = u
 unique_more k (s ∷ ss) ts h low u = (
   All-append (λ x. x.number ≢ s.number) ss ts
@@ -76,7 +76,7 @@ unique_kept n (s ∷ ss) u = cond_both (unanswered n s) (s ∷ filter (unanswere
     (λ _. (all_kept_by (unanswered n) (λ x. x.number ≢ s.number) ss u.0, unique_kept n ss u.1))
     (λ _. unique_kept n ss u.1)
 
-none_answered : (a n : ℕ) (ss : List Slip) → All (λ x. x.number ≢ n) ss → slipped a (filter (unanswered n) ss) ≡ slipped a ss
+none_answered : (a n : ℕ) (ss : List Slip) → AllByRecursion (λ x. x.number ≢ n) ss → slipped a (filter (unanswered n) ss) ≡ slipped a ss
 none_answered a n [] h = refl
 none_answered a n (s ∷ ss) h = rw (ne_eqb s.number n h.0) (omega (arith, sum_by-cons (slip_part a) s (filter (unanswered n) ss), sum_by-cons (slip_part a) s ss, none_answered a n ss h.1))
 

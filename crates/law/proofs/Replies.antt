@@ -4,7 +4,7 @@
 use Rattle.std.proofs.Common.{◌≡◌, ℕ, ◌-◌, ◌≤◌, Bool, true, false, cond, ltb, List, [], ◌∷◌, ◌++◌, length, refl, ap, ◌∙◌, arith}
 use Rattle.std.proofs.lemmas.Bool.{ltb-false}
 use Rattle.std.proofs.lemmas.Bool.Decides.{nat_tests}
-use Rattle.std.specs.List.{AllByRecursion as All}
+use Rattle.std.specs.List.{AllByRecursion}
 use Rattle.values.specs.declared.reports.Report.{Report}
 use Rattle.values.specs.declared.reports.Report.TheVariants.{FilledAway, Cancelled}
 use Rattle.values.specs.declared.reports.Cause.TheVariants.{Unfilled}
@@ -23,7 +23,7 @@ pub record Said (a n m : ℕ) (rs : List Report) : Type 0 where
   pub filled_none : (x : ℕ) → filled x rs ≡ 0
   pub quiet : (x : ℕ) (p : Prices) → latest x p rs ≡ p
   pub no_news : news rs ≡ []
-  pub fair : (e : Bests) (look : ℕ → Terms) → All (Fair e look) rs
+  pub fair : (e : Bests) (look : ℕ → Terms) → AllByRecursion (Fair e look) rs
   pub states : (left : ℕ → ℕ) → StatesRest left rs
   pub few : length rs ≤ 2
 

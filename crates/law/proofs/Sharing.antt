@@ -6,7 +6,7 @@ use Rattle.std.proofs.Common.{◌≡◌, ℕ, suc, ◌+◌, ◌-◌, ◌<◌, �
 use Rattle.std.proofs.lemmas.Bool.{cond_both, ltb-true}
 use Rattle.std.proofs.lemmas.Bool.Decides.{nat_tests}
 use Rattle.std.proofs.lemmas.List.Sums.{sum_by-cons}
-use Rattle.std.specs.List.{AllByRecursion as All}
+use Rattle.std.specs.List.{AllByRecursion}
 use Rattle.market.specs.declared.board.Quote.{Quote}
 use Rattle.values.specs.declared.terms.Side.{Side}
 use Rattle.values.specs.declared.reports.Slip.{Slip}
@@ -21,7 +21,7 @@ use Rattle.rules.specs.Law.{Consecutive}
 
 pub record Shared (a k n m : ℕ) (ss : List Slip) : Type 0 where
   pub numbers : Consecutive k ss
-  pub each : All (λ x. (0 < x.size) × (x.arrival ≡ a)) ss
+  pub each : AllByRecursion (λ x. (0 < x.size) × (x.arrival ≡ a)) ss
   pub few : length ss ≤ m
   pub all : total ss ≤ n
 
@@ -54,7 +54,7 @@ routing_shared true qs e k t =
     (λ _. none_shared t.arrival (suc k) t.remaining (length qs))
 routing_shared false qs e k t = none_shared t.arrival (suc k) t.remaining 0
 
-pub slipped_all : (a x : ℕ) (ss : List Slip) → All (λ s. s.arrival ≡ x) ss → slipped a ss ≡ share a x (total ss)
+pub slipped_all : (a x : ℕ) (ss : List Slip) → AllByRecursion (λ s. s.arrival ≡ x) ss → slipped a ss ≡ share a x (total ss)
 slipped_all a x [] h = grind (arith, nat_tests)
 slipped_all a x (s ∷ ss) h =
     let e : slip_part a s ≡ share a x s.size = ap (λ y. share a y s.size) h.0 in

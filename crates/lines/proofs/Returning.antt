@@ -1,6 +1,6 @@
 -- What is written is read back. Assumes nothing.
 use Rattle.std.proofs.Common.{◌≡◌, ℕ, suc, ◌+◌, ◌<◌, ◌≤◌, leb, List, [], ◌∷◌, ◌++◌, length, Some, None, Ok, decimal, Option, refl, ap, ◌∙◌, arith, length-append}
-use Rattle.std.specs.List.{AllByRecursion as All}
+use Rattle.std.specs.List.{AllByRecursion}
 use Rattle.std.proofs.lemmas.Str.Ascii.{encode_ascii}
 use Rattle.std.proofs.ByRecursion.{All-from_get_or}
 use Rattle.std.proofs.lemmas.Fmt.{length-decimal-le}
@@ -37,7 +37,7 @@ pieces (s ∷ ss) (n ∷ ns) = piece s n ∷ pieces ss ns
 
 -- no tab stands in a field
 abbrev Tabless : List ℕ → Type 0
-Tabless f = All (λ b. b ≡ 9 → ⊥) f
+Tabless f = AllByRecursion (λ b. b ≡ 9 → ⊥) f
 
 tabless : (s : Sort) (n : ℕ) → Fits s n → Tabless (piece s n)
 tabless num n h = All-from_get_or (λ b. b ≡ 9 → ⊥) (decimal n) 0 (λ i lt is. let d = decimal_digits n h i lt in absurd (omega arith))

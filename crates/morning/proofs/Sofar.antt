@@ -13,7 +13,7 @@ use Rattle.morning.specs.declared.tops.Tops.{Tops}
 use Rattle.morning.specs.Tops.{Top}
 use Rattle.morning.specs.Mornings.{started, taken, after}
 use Rattle.morning.specs.Words.{quote_line, top_line, agreement, dump_from}
-use Rattle.morning.specs.Answers.{Answer, Lines, Over, OverBytes, Begun, Told as Told-by, Short, Morning}
+use Rattle.morning.specs.Answers.{Answer, Lines, Over, OverBytes, Begun, Told as ToldBy, Short, Morning}
 
 -- whatever the lines ls are answered with where the boards hold qs, after b was written, is the end of an answer to ls₀ after b₀
 abbrev pub Sofar : (ℕ → Bool) → List ℕ → List (List ℕ) → List ℕ → List Quote → List (List ℕ) → Type 0
@@ -52,5 +52,5 @@ morning_of n input first rest s bytes b₀ b₁ b₂ l is ok told wrote =
     let b = told.0 ++ dump_from 0 bytes in (
       b,
       wrote ∙ ap (λ x. x ++ dump_from 0 bytes) told.1 ∙ append_assoc b₀ told.0 (dump_from 0 bytes),
-      subst (λ x. Short x n input b) (sym (le-leb (length input) 65536 l)) (subst (λ ls. Told-by n ls b) (sym is) (subst (λ r. Begun n r rest b) ok (told.0, bytes, told.2, refl))),
+      subst (λ x. Short x n input b) (sym (le-leb (length input) 65536 l)) (subst (λ ls. ToldBy n ls b) (sym is) (subst (λ r. Begun n r rest b) ok (told.0, bytes, told.2, refl))),
     )

@@ -13,7 +13,7 @@
 --     Kept R h s          the tables have what the history says, and nothing else
 --     Law                 every run is lawful and kept
 use Rattle.std.specs.Prelude.{◌≡◌, ℕ, suc, ◌+◌, ◌-◌, ◌<◌, ◌≤◌, Bool, ◌≢◌, List, [], ◌∷◌, length}
-use Rattle.std.specs.List.{ContainsAt as Has, AllByRecursion as All}
+use Rattle.std.specs.List.{ContainsAt as Has, AllByRecursion}
 use Rattle.values.specs.declared.terms.Side.TheVariants.{Buy, Sell}
 use Rattle.values.specs.declared.calls.Call.{Call}
 use Rattle.values.specs.declared.calls.Call.TheVariants as call
@@ -46,7 +46,7 @@ Fair e look (FilledAway x k n) = Unit {0}
 -- the away best is the last told, the call in hand included
 abbrev pub Fairly : (ℕ → Bool) → List Event → Type 0
 Fairly R [] = Unit {0}
-Fairly R (e ∷ h) = All (Fair (best (e ∷ h)) (entry R (e ∷ h))) (reports e) × Fairly R h
+Fairly R (e ∷ h) = AllByRecursion (Fair (best (e ∷ h)) (entry R (e ∷ h))) (reports e) × Fairly R h
 
 abbrev pub Consecutive : ℕ → List Slip → Type 0
 Consecutive k [] = Unit {0}
@@ -123,7 +123,7 @@ pub record Lawful (R : ℕ → Bool) (h : List Event) : Type 0 where
   -- every booking states what then rested of its order
   pub stated : Stated R h
   -- no call writes more than 128 reports or 15 slips, nor more than its lists had room for
-  pub room : All Roomy h
+  pub room : AllByRecursion Roomy h
   pub counted : Counted h
   -- a slip is settled once, and whole; nothing else is filled away
   pub answered : Answered h
@@ -144,7 +144,7 @@ pub record Kept (R : ℕ → Bool) (h : List Event) (s : State) : Type 0 where
   pub clean : (j : ℕ) → (at s.orders j).remaining ≡ 0 → at s.orders j ≡ free
   -- the slips out are those of the history, each once, with the id of its order
   pub sent : (j : ℕ) → OutThere (sent_at s.sent j) → Has (out_in h) (sent_at s.sent j).slip
-  pub filed : All (λ x. (j : ℕ) × ((sent_at s.sent j).slip ≡ x)) (out_in h)
+  pub filed : AllByRecursion (λ x. (j : ℕ) × ((sent_at s.sent j).slip ≡ x)) (out_in h)
   pub ids : (j : ℕ) → OutThere (sent_at s.sent j) → (sent_at s.sent j).id ≡ (entry R h (sent_at s.sent j).slip.arrival).id
   pub apart : (j k : ℕ) → OutThere (sent_at s.sent j) → OutThere (sent_at s.sent k) → (sent_at s.sent j).slip.number ≡ (sent_at s.sent k).slip.number → j ≡ k
   pub vacant : (j : ℕ) → (sent_at s.sent j).slip.size ≡ 0 → sent_at s.sent j ≡ no_sent

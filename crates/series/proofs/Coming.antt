@@ -22,7 +22,7 @@ use Rattle.rules.specs.Quoting.{quote}
 use Rattle.rules.specs.States.{State, new, opening, telling, dropping, replying}
 use Rattle.rules.specs.Faults.{refusal}
 use Rattle.rules.specs.Steps.{Step, Run}
-use Rattle.rules.specs.Steps.Step.{opened, told as step-told, dropped, replied, left}
+use Rattle.rules.specs.Steps.Step.{opened, told as step_told, dropped, replied, left}
 use Rattle.rules.specs.Steps.Run.{start}
 use Rattle.rules.specs.Steps.Event.{did}
 use Rattle.series.specs.States.{requoted}
@@ -64,7 +64,7 @@ away_came R x q m s s' k e l l' fit at best to g =
     let d = telling R s x q in
     let same = ap (λ b. quote b R s.orders) best in
     let from : s' ≡ d.state = to ∙ ap (requoted s (told s.quotes x q)) same in
-    (d.reports, [], g.added ∙ ap (λ r. contents l ++ r.out) same, refl, subst (λ (y : State). Step R s (did (call.Away x q) m d.reports []) y) (sym from) (step-told (away_rowed R s x q m k (Ok tt) fit at)))
+    (d.reports, [], g.added ∙ ap (λ r. contents l ++ r.out) same, refl, subst (λ (y : State). Step R s (did (call.Away x q) m d.reports []) y) (sym from) (step_told (away_rowed R s x q m k (Ok tt) fit at)))
 
 -- ---- a cancel
 pub cancel_unfit : (R : ℕ → Bool) (s : State) (id : ℕ) (m : Room) (f : CheckFault) → checked_cancel id ≡ Err f → refusal R s (call.Cancel id) m ≡ Some (of_check f)

@@ -8,7 +8,7 @@ use Rattle.std.proofs.Common.{◌≡◌, ℕ, zero, suc, ◌+◌, ◌-◌, ◌<�
 use Rattle.std.proofs.lemmas.Bool.Decides.{nat_tests}
 use Rattle.std.proofs.lemmas.Bool.{ltb-true, ltb-false, cond_both, lt-ltb}
 use Rattle.std.proofs.lemmas.List.Sums.{sum_by-set, get_or-le-sum_by}
-use Rattle.std.specs.List.{AllByRecursion as All}
+use Rattle.std.specs.List.{AllByRecursion}
 use Rattle.values.specs.declared.terms.Side.{Side}
 use Rattle.values.specs.declared.terms.Side.TheVariants.{Buy, Sell}
 use Rattle.values.specs.declared.reports.Report.TheVariants.{Fill}
@@ -148,11 +148,11 @@ module _ (e : Bests) (look : ℕ → Terms) where
       let sides : side_of t ≡ flip (side_of m) = flip_flip (side_of t) (side_of m) h.2 in
       (both.0, both.1, subst (λ w. Within w p) (sym known) (h.3.0, h.3.1), subst (λ w. Within w p) (sym k.known) (k.fits.0, k.fits.1), rw (known, k.known) sides, some)
 
-  pub trade_fair : (n : ℕ) (t : Order) (b : List Order) → look t.arrival ≡ t.terms → Holds (Held e look) b → All (Fair e look) (trade n e t b).out
+  pub trade_fair : (n : ℕ) (t : Order) (b : List Order) → look t.arrival ≡ t.terms → Holds (Held e look) b → AllByRecursion (Fair e look) (trade n e t b).out
   unfolding trade
   trade_fair zero t b known held = tt
   trade_fair (suc n) t b known held =
-      branch_both (hit e t b) _ _ (λ (d : Traded). All (Fair e look) d.out) (λ h. tt)
+      branch_both (hit e t b) _ _ (λ (d : Traded). AllByRecursion (Fair e look) d.out) (λ h. tt)
       (λ i h. (
         fair t b i _ known held (found e t b i h) (omega (arith, (found e t b i h).0, (found e t b i h).1)),
         trade_fair n _ _ known (holds_lower (Held e look) (held_steady e look) b _ (low_set b i _ (found e t b i h).1) held),

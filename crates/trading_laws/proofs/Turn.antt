@@ -7,7 +7,7 @@ use Rattle.std.proofs.lemmas.Bool.Decides.{nat_tests}
 use Rattle.std.proofs.lemmas.Bool.{eqb-true, eq-eqb, ne_eqb, and_parts, ltb-true, ltb-false, cond_both}
 use Rattle.std.proofs.lemmas.List.Sums.{sum_by-set, count_by-le-length}
 use Rattle.std.proofs.ByRecursion.{All-append}
-use Rattle.std.specs.List.{AllByRecursion as All}
+use Rattle.std.specs.List.{AllByRecursion}
 use Rattle.values.specs.declared.terms.Side.{Side}
 use Rattle.values.specs.declared.terms.Side.TheVariants.{Buy, Sell}
 use Rattle.values.specs.declared.reports.Report.TheVariants.{Booked}
@@ -124,7 +124,7 @@ record Placed (e : Bests) (look : ℕ → Terms) (i : ℕ) (old t : Order) (b : 
   pub sizes : (a : ℕ) → resting a b + part a t ≡ resting a r.book + (filled a r.out + cancelled a r.out)
   pub nothing_away : (a : ℕ) → away a r.out ≡ 0
   pub nothing_new : news r.out ≡ []
-  pub fair : All (Fair e look) r.out
+  pub fair : AllByRecursion (Fair e look) r.out
   pub stated : resting t.arrival b ≡ 0 → StatesRest (λ a. resting a r.book) r.out
   pub quiet : (a : ℕ) (p : Prices) → a ≢ t.arrival → latest a p r.out ≡ p
   pub shows : Live (at r.book i) → latest t.arrival (prices_of old) r.out ≡ prices_of (at r.book i)
@@ -171,7 +171,7 @@ module _ (e : Bests) (R : ℕ → Bool) (look : ℕ → Terms) where
         shows = λ m. absurd (dead b i empty m);
       })
     where
-      silent : (a x p d n : ℕ) (c : Bool) → let rs = cond c [] (Booked x p d n ∷ []) in (filled a rs ≡ 0) × (cancelled a rs ≡ 0) × (away a rs ≡ 0) × (news rs ≡ []) × All (Fair e look) rs
+      silent : (a x p d n : ℕ) (c : Bool) → let rs = cond c [] (Booked x p d n ∷ []) in (filled a rs ≡ 0) × (cancelled a rs ≡ 0) × (away a rs ≡ 0) × (news rs ≡ []) × AllByRecursion (Fair e look) rs
       silent a x p d n true = (refl, refl, refl, refl, tt)
       silent a x p d n false = (refl, refl, refl, refl, (tt, tt))
 

@@ -6,7 +6,7 @@
 --     Told e look a old b r   r is what became of b when those that arrived after a had their turns; `old` is the book before the call
 --     BookLaws               a turn, an entry and a quote do that to every book in order
 use Rattle.std.specs.Prelude.{◌≡◌, ℕ, suc, ◌+◌, ◌<◌, ◌≤◌, Bool, ◌≢◌, List, [], ◌∷◌, length}
-use Rattle.std.specs.List.{AllByRecursion as All}
+use Rattle.std.specs.List.{AllByRecursion}
 use Rattle.values.specs.declared.reports.Slip.{Slip}
 use Rattle.rules.specs.declared.Terms.{Terms}
 use Rattle.rules.specs.declared.Order.{Order}
@@ -41,7 +41,7 @@ pub record After (e : Bests) (look : ℕ → Terms) (send : Order → List Slip)
   pub nothing_away : (a : ℕ) → away a r.out ≡ 0
   pub nothing_new : news r.out ≡ []
   -- every fill is of a buy with a sell, at a price that both orders and the away best allow
-  pub fair : All (Fair e look) r.out
+  pub fair : AllByRecursion (Fair e look) r.out
   -- where no other order has its number, its booking states what rests of it
   pub stated : resting t.arrival b ≡ 0 → StatesRest (λ a. resting a r.book) r.out
   -- only t is booked, and where it rests its prices are those of its last booking
@@ -61,7 +61,7 @@ pub record Entered (e : Bests) (look : ℕ → Terms) (send : Order → List Sli
   pub sent : (m : ℕ) × (m ≤ t.size) × (r.slips ≡ send (with_rem (fresh (suc n) t) m))
   pub nothing_away : (a : ℕ) → away a r.out ≡ 0
   pub announces : news r.out ≡ (suc n, t.id) ∷ []
-  pub fair : All (Fair e look) r.out
+  pub fair : AllByRecursion (Fair e look) r.out
   pub stated : StatesRest (λ a. resting a r.book) r.out
   pub quiet : (a : ℕ) (p : Prices) → a ≢ suc n → latest a p r.out ≡ p
   -- `was` has the prices of each order by its last booking before
@@ -78,7 +78,7 @@ pub record Told (e : Bests) (look : ℕ → Terms) (a : ℕ) (old b : List Order
   pub sizes : (x : ℕ) → resting x b ≡ resting x r.book + (filled x r.out + cancelled x r.out)
   pub nothing_away : (x : ℕ) → away x r.out ≡ 0
   pub nothing_new : news r.out ≡ []
-  pub fair : All (Fair e look) r.out
+  pub fair : AllByRecursion (Fair e look) r.out
   pub stated : StatesRest (λ x. resting x r.book) r.out
   pub quiet : (x : ℕ) (p : Prices) → ((j : ℕ) → Live (at b j) → (at b j).arrival ≢ x) → latest x p r.out ≡ p
   pub shows : (j : ℕ) (p : Prices) → Live (at r.book j) → ((at b j).arrival ≤ a → p ≡ prices_of (at b j)) → (a < (at b j).arrival → p ≡ prices_of (at old j)) → latest (at b j).arrival p r.out ≡ prices_of (at r.book j)
