@@ -4,7 +4,7 @@ ghost use Rattle.rules.specs.Resting.{cause_of};
 ghost use Rattle.rules.specs.Book.{Live};
 ghost use Rattle.records.specs.Contents.{used, capacity, Grown};
 ghost use Rattle.book.specs.Books.{orders_of};
-ghost use Rattle.book.specs.Rests.{rest_as, settle_on, booked_at, Came};
+ghost use Rattle.book.specs.Rests.{rest_as, rest_on, settle_on, booked_at, Came};
 
 use crate::book::Book;
 use records::AppendList;
@@ -36,6 +36,13 @@ fn rest_as(side: Side, away: Away, terms: &Terms) -> Option<Prices>
     } else {
         None
     }
+}
+
+// Where the rest of an order rests, if it does.
+fn rest_at(away: Away, order: &Order) -> Option<Prices>
+    ensures { result ≡ rest_on away order.now }
+{
+    rest_as(order.terms.side, away, &order.terms)
 }
 
 // Why a rest that has no price is cancelled.
@@ -96,7 +103,7 @@ impl Book {
         if order.remaining == 0 {
             return;
         }
-        match rest_as(order.terms.side, away, &order.terms) {
+        match rest_at(away, order) {
             Some(prices) => self.book_at(i, before, order, prices, reports),
             None => reports.push(Report::Cancelled {
                 arrival: order.arrival,
