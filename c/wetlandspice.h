@@ -1,6 +1,6 @@
 /* A day of one option series, run inside a program of your own.
  *
- * Link target/staticlib/libboundary.a and the kit's librattle_c.a beside it; tools/check-boundary shows how.
+ * Link crates/boundary/out/libboundary.a and the kit's liblibc_c.a beside it; tools/check-boundary shows how.
  */
 #ifndef WETLANDSPICE_H
 #define WETLANDSPICE_H
