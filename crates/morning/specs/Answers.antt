@@ -2,7 +2,7 @@
 --     Answer R qs r b          b is what is written for a line that was taken as r, where the boards held the quotes qs
 --     Lines R qs lines b       b is what is written for these lines, one after the other
 --     Over n R lines b         the same from absent quotes, with the second board over n bytes of the host's memory
---     Morning n input b        b is what is written for an input; at its end stands what the host's n bytes hold
+--     Morning n input b        b is what is written for an input, with n bytes of the host's memory; at its end stand some bytes, told as a dump
 use Rattle.std.specs.Prelude.{◌≡◌, ℕ, Bool, true, false, List, [], ◌∷◌, ◌++◌, length, replicate, Ok, Err, Result, ◌==◌, nat_le}
 use Rattle.market.specs.declared.board.Quote.{Quote}
 use Rattle.market.specs.declared.packed.BoardFault.TheVariants.{Length}

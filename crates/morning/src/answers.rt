@@ -6,7 +6,7 @@ ghost use Rattle.morning.specs.Mornings.{taken, after};
 ghost use Rattle.morning.specs.Answers.{Answer, Over, Morning};
 
 use super::taking::{Taken, start, take};
-use super::text::{put_bytes, put_fault, put_passed_over, put_quote, put_tops};
+use super::text::{put_bytes, put_passed_over, put_quote, put_tops};
 use super::tops::top;
 use lines::records::{INPUT_LIMIT, Records};
 use market::any::AnyLadder;
@@ -16,6 +16,7 @@ use market::packed::PackedBoard;
 use market::table::TableBoard;
 use std::alloc::AllocError;
 use values::faults::{Fault, LineFault};
+use values::texts::put_fault;
 
 // A line's answer: the exchange's quote and the top of the away market, that it is passed over, or its fault.
 fn answer<L: Ladder, X: Board, Y: Board>(

@@ -1,6 +1,5 @@
 // A morning in words, for a person to read.
 ghost use Rattle.std.specs.Prelude.{◌≡◌, ◌<◌, ◌++◌, Some, string_bytes, OnOk};
-ghost use Rattle.values.specs.Texts.{ended, fault_text};
 ghost use Rattle.morning.specs.Words.{side_text, rung_text, quote_line, top_line, passed_line, hex_digit, byte_text, dump_from};
 
 use super::tops::Tops;
@@ -8,7 +7,6 @@ use market::board::Quote;
 use std::alloc::AllocError;
 use std::fmt;
 use values::calls::Call;
-use values::faults::Fault;
 use values::terms::Side;
 
 // One side of a quote, a buy's being the bid: its price and size, or that there is none.
@@ -133,10 +131,4 @@ pub fn put_passed_over(out: &mut String, call: Call) -> Result<(), AllocError>
     ensures { OnOk result (string_bytes out.new ≡ string_bytes out.old ++ passed_line call) }
 {
     writeln!(out, "passed over: {call}")
-}
-
-pub fn put_fault(out: &mut String, fault: Fault) -> Result<(), AllocError>
-    ensures { OnOk result (string_bytes out.new ≡ string_bytes out.old ++ ended fault_text fault) }
-{
-    writeln!(out, "{fault}")
 }
