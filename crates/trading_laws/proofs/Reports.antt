@@ -1,5 +1,5 @@
 -- What two lists of reports come to together, and what rests of one order. Assumes nothing.
---     filled-++, cancelled-++, away-++, latest-++, news-++, no-news-++     reports of two lists
+--     filled-++, cancelled-++, away-++, latest-++, news-++, no_news-++     reports of two lists
 --     states_same, states-++      bookings that state what rests
 --     part_none, none_of          where nothing rests of an order
 --     sum_mono, resting_lower     trading lets no more rest
@@ -42,8 +42,8 @@ news-++ (Booked x y d n ∷ rs) ss = news-++ rs ss
 news-++ (Cancelled x n c ∷ rs) ss = news-++ rs ss
 news-++ (FilledAway x k n ∷ rs) ss = news-++ rs ss
 
-pub no-news-++ : (rs ss : List Report) → news rs ≡ [] → news ss ≡ [] → news (rs ++ ss) ≡ []
-no-news-++ rs ss h k = news-++ rs ss ∙ ap₂ (λ x y. x ++ y) h k
+pub no_news-++ : (rs ss : List Report) → news rs ≡ [] → news ss ≡ [] → news (rs ++ ss) ≡ []
+no_news-++ rs ss h k = news-++ rs ss ∙ ap₂ (λ x y. x ++ y) h k
 
 -- ---- what bookings state
 pub states_same : (f g : ℕ → ℕ) (rs : List Report) → ((a : ℕ) → f a ≡ g a) → StatesRest f rs → StatesRest g rs

@@ -28,7 +28,7 @@ use Rattle.trading_laws.specs.Turns.{After, Told}
 use Rattle.trading_laws.proofs.Bounds.{ok_false, ok_true, true_ok, ok_self, ok_trans}
 use Rattle.trading_laws.proofs.Slots.{Picked, picked, branch_both, at_same, at_other, at_set, live_within}
 use Rattle.trading_laws.proofs.Trade.{low_keeps, held_steady}
-use Rattle.trading_laws.proofs.Reports.{filled-++, cancelled-++, away-++, latest-++, no-news-++, states_same, states-++, part_none, none_of, sum_mono}
+use Rattle.trading_laws.proofs.Reports.{filled-++, cancelled-++, away-++, latest-++, no_news-++, states_same, states-++, part_none, none_of, sum_mono}
 use Rattle.trading_laws.proofs.Turn.{settled_steady, apart_sym, clear_set, turn_after}
 
 -- ---- the places keep their orders
@@ -218,7 +218,7 @@ module _ (e : Bests) (R : ℕ → Bool) (look : ℕ → Terms) where
         most = λ k. g.most (f.most (free_most b i k) (k i (later_parts a (at b i) next.0).0));
         clean = λ k. g.clean (f.clean (free_clean b i k));
         nothing_away = λ x. omega (arith, away-++ x r.out s.out, f.nothing_away x, g.nothing_away x);
-        nothing_new = no-news-++ r.out s.out f.nothing_new g.nothing_new;
+        nothing_new = no_news-++ r.out s.out f.nothing_new g.nothing_new;
         sizes = λ x. omega (arith, g.sizes x, f.sizes x, unsent x (at b i).arrival (total r.slips) (ap total f.sent.2), sum_by-set (part x) b i free free m, part_none x free refl, filled-++ x r.out s.out, cancelled-++ x r.out s.out);
         fair = All-append (Fair e look) r.out s.out f.fair g.fair;
         stated = states-++ (λ x. resting x s.book) r.out s.out (states_same (λ x. resting x r.book) _ r.out g.sizes (f.stated (alone a b old h i next))) g.stated;

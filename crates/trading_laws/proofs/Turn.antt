@@ -29,7 +29,7 @@ use Rattle.trading_laws.specs.Books.{Fits, Holds, Held, Settled, Apart, Clear, M
 use Rattle.trading_laws.specs.Turns.{Modest, After}
 use Rattle.trading_laws.proofs.Bounds.{ok_true, ok_self, ok_trans, past_or_ok, past_flip}
 use Rattle.trading_laws.proofs.Slots.{branch_both, at_same, at_other, at_set}
-use Rattle.trading_laws.proofs.Reports.{filled-++, cancelled-++, away-++, latest-++, no-news-++, states-++, part_none, resting_lower}
+use Rattle.trading_laws.proofs.Reports.{filled-++, cancelled-++, away-++, latest-++, no_news-++, states-++, part_none, resting_lower}
 use Rattle.trading_laws.proofs.Trade.{flip_flip, low_refl, low_trans, low_keeps, Lower, Steady, Stopped, held_steady, share_split, trade_length, trade_taker, trade_lowers, trade_sizes, trade_fair, trade_stops, trade_cancels, trade_latest, trade_away, trade_news, trade_states, trade_less}
 
 -- ---- what rests
@@ -256,7 +256,7 @@ module _ (e : Bests) (R : ℕ → Bool) (look : ℕ → Terms) where
           );
           sent = (d.taker.remaining, fewer, ap send same);
           nothing_away = λ a. omega (arith, away-++ a d.out r.out, trade_away e a n t b, s.nothing_away a);
-          nothing_new = no-news-++ d.out r.out (trade_news e n t b) s.nothing_new;
+          nothing_new = no_news-++ d.out r.out (trade_news e n t b) s.nothing_new;
           fair = All-append (Fair e look) d.out r.out (trade_fair e look n t b known held) s.fair;
           stated = λ none. states-++ (λ a. resting a r.book) d.out r.out (trade_states e _ n t b) (s.stated (omega (arith, none, resting_lower u.arrival b d.book long low, ap (λ x. resting x b) arrived)));
           quiet = λ a p ne. latest-++ a p d.out r.out ∙ ap (λ x. latest a x r.out) (trade_latest e a p n t b) ∙ s.quiet a p (λ z. ne (z ∙ arrived));
