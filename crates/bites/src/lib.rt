@@ -5,127 +5,91 @@
 ghost use Rattle.bites.specs.Wrong.{ThroughTheOffer, UnderTheBid, PastTheMakersProtection, TwoBuysTrade, OfNothing, Locks, RestsUnbooked, RestMisstated, WrittenPastTheRoom, OnlyTheOldest, InventedSize, SettledTwice, SettledInPart, AwayUnasked, CancelsAnother, QuoteForgotten, BookedPastItsProtection, NumberSkipped};
 
 // A fill above the best away offer.
-pub fn a_fill_through_the_offer_is_caught() -> u8
+pub fn a_fill_through_the_offer_is_caught()
     ensures { ThroughTheOffer }
-{
-    0
-}
+{}
 
 // A fill below the best away bid.
-pub fn a_fill_under_the_bid_is_caught() -> u8
+pub fn a_fill_under_the_bid_is_caught()
     ensures { UnderTheBid }
-{
-    0
-}
+{}
 
 // A fill past the protection limit that its maker got at its own entry.
-pub fn a_fill_past_the_makers_protection_is_caught() -> u8
+pub fn a_fill_past_the_makers_protection_is_caught()
     ensures { PastTheMakersProtection }
-{
-    0
-}
+{}
 
 // A fill of a buy with a buy.
-pub fn a_fill_between_two_buys_is_caught() -> u8
+pub fn a_fill_between_two_buys_is_caught()
     ensures { TwoBuysTrade }
-{
-    0
-}
+{}
 
 // A fill of no contracts.
-pub fn a_fill_of_nothing_is_caught() -> u8
+pub fn a_fill_of_nothing_is_caught()
     ensures { OfNothing }
-{
-    0
-}
+{}
 
 // An order displayed at the best away offer.
-pub fn a_displayed_price_that_locks_is_caught() -> u8
+pub fn a_displayed_price_that_locks_is_caught()
     ensures { Locks }
-{
-    0
-}
+{}
 
 // An order that rests, and whose booking is not reported.
-pub fn an_order_that_rests_unbooked_is_caught() -> u8
+pub fn an_order_that_rests_unbooked_is_caught()
     ensures { RestsUnbooked }
-{
-    0
-}
+{}
 
 // A booking that states another size than rests.
-pub fn a_booking_of_another_size_is_caught() -> u8
+pub fn a_booking_of_another_size_is_caught()
     ensures { RestMisstated }
-{
-    0
-}
+{}
 
 // An order carried out where its reports have no room.
-pub fn a_report_past_the_room_is_caught() -> u8
+pub fn a_report_past_the_room_is_caught()
     ensures { WrittenPastTheRoom }
-{
-    0
-}
+{}
 
 // A quote that takes only the oldest order through step three.
-pub fn a_pair_left_tradable_is_caught() -> u8
+pub fn a_pair_left_tradable_is_caught()
     ensures { OnlyTheOldest }
-{
-    0
-}
+{}
 
 // A fill of more contracts than were entered.
-pub fn an_invented_size_is_caught() -> u8
+pub fn an_invented_size_is_caught()
     ensures { InventedSize }
-{
-    0
-}
+{}
 
 // A second reply to a slip, taken like the first.
-pub fn a_slip_settled_twice_is_caught() -> u8
+pub fn a_slip_settled_twice_is_caught()
     ensures { SettledTwice }
-{
-    0
-}
+{}
 
 // A reply that accounts for a part of its slip only.
-pub fn a_slip_settled_in_part_is_caught() -> u8
+pub fn a_slip_settled_in_part_is_caught()
     ensures { SettledInPart }
-{
-    0
-}
+{}
 
 // An order told filled away, with no slip out.
-pub fn a_fill_away_without_a_slip_is_caught() -> u8
+pub fn a_fill_away_without_a_slip_is_caught()
     ensures { AwayUnasked }
-{
-    0
-}
+{}
 
 // A reply that cancels a part of an order that is on no slip.
-pub fn a_reply_that_cancels_another_order_is_caught() -> u8
+pub fn a_reply_that_cancels_another_order_is_caught()
     ensures { CancelsAnother }
-{
-    0
-}
+{}
 
 // A quote that is told, and then not looked at.
-pub fn a_quote_forgotten_is_caught() -> u8
+pub fn a_quote_forgotten_is_caught()
     ensures { QuoteForgotten }
-{
-    0
-}
+{}
 
 // A booking past the protection limit that the order got at its own entry.
-pub fn a_booking_past_its_protection_is_caught() -> u8
+pub fn a_booking_past_its_protection_is_caught()
     ensures { BookedPastItsProtection }
-{
-    0
-}
+{}
 
 // An arrival number left out.
-pub fn a_number_skipped_is_caught() -> u8
+pub fn a_number_skipped_is_caught()
     ensures { NumberSkipped }
-{
-    0
-}
+{}

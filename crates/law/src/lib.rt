@@ -7,8 +7,6 @@
 ghost use Rattle.rules.specs.Law.{Law};
 
 // Every run of a new series is lawful, and its tables are kept.
-pub fn law_stands() -> u8
+pub fn law_stands()
     ensures { Law }
-{
-    0
-}
+{}

@@ -59,8 +59,6 @@ pub struct Room {
 }
 
 // One day, call by call, is a run of a new series.
-pub fn day_stands() -> u8
+pub fn day_stands()
     ensures { OneDay }
-{
-    0
-}
+{}

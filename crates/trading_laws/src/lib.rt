@@ -6,8 +6,6 @@
 ghost use Rattle.trading_laws.specs.Turns.{BookLaws};
 
 // A turn and a quote keep a book in order and account for every contract.
-pub fn book_laws_stand() -> u8
+pub fn book_laws_stand()
     ensures { BookLaws }
-{
-    0
-}
+{}
