@@ -6,7 +6,7 @@
 use anyhow::anyhow;
 use std::fs::File;
 use std::io::{Read, Write};
-use std::{env, io};
+use std::{env, fmt, io};
 
 // What the words after the program's name ask for.
 #[derive(Drop)]
@@ -14,45 +14,58 @@ enum Request {
     Help,
     StandardInput,
     File(String),
+}
+
+// Why they ask for nothing that the program does.
+#[derive(Debug, Drop)]
+enum Misuse {
     UnknownFlag(String),
     TooMany,
 }
 
-fn by_word(word: String) -> Request {
-    let text = word.as_str();
-    if text == "--help" || text == "-h" {
-        Request::Help
-    } else if text == "-" {
-        Request::StandardInput
-    } else if text.starts_with('-') {
-        Request::UnknownFlag(word)
-    } else {
-        Request::File(word)
+impl fmt::Display for Misuse {
+    fn fmt<W: fmt::Write>(&self, f: &mut fmt::Formatter<W>) -> fmt::Result {
+        match self {
+            Misuse::UnknownFlag(flag) => write!(f, "no flag {flag}"),
+            Misuse::TooMany => write!(f, "one file at most"),
+        }
     }
 }
 
-fn asked(rt: &HostRuntime) -> io::Result<Request> {
+fn by_word(word: String) -> Result<Request, Misuse> {
+    let text = word.as_str();
+    if text == "--help" || text == "-h" {
+        Ok(Request::Help)
+    } else if text == "-" {
+        Ok(Request::StandardInput)
+    } else if text.starts_with('-') {
+        Err(Misuse::UnknownFlag(word))
+    } else {
+        Ok(Request::File(word))
+    }
+}
+
+fn asked(rt: &HostRuntime) -> io::Result<Result<Request, Misuse>> {
     let mut words = env::args(rt)?;
     let _program = words.next();
     let first = words.next();
     let more = words.next().is_some();
     Ok(match first {
-        None => Request::StandardInput,
-        Some(_) if more => Request::TooMany,
+        None => Ok(Request::StandardInput),
+        Some(_) if more => Err(Misuse::TooMany),
         Some(word) => by_word(word),
     })
 }
 
-fn read_file(rt: &HostRuntime, name: &str, most: u64) -> io::Result<Vec<u8>> {
+// All that the reader gives, `most` bytes of it at most.
+fn read_all<R: Read + Drop>(rt: &HostRuntime, reader: R, most: u64) -> io::Result<Vec<u8>> {
     let mut input = Vec::new(rt.alloc());
-    File::open(rt, name)?.take(most).read_to_end(&mut input)?;
+    reader.take(most).read_to_end(&mut input)?;
     Ok(input)
 }
 
-fn read_standard(rt: &HostRuntime, most: u64) -> io::Result<Vec<u8>> {
-    let mut input = Vec::new(rt.alloc());
-    rt.stdin().take(most).read_to_end(&mut input)?;
-    Ok(input)
+fn read_file(rt: &HostRuntime, name: &str, most: u64) -> io::Result<Vec<u8>> {
+    read_all(rt, File::open(rt, name)?, most)
 }
 
 // The bytes that the program is asked to take, `most` of them at most; none where it was asked for help, which is then
@@ -63,22 +76,25 @@ pub fn asked_input(
     help: &str,
     most: u64,
 ) -> anyhow::Result<Option<Vec<u8>>> {
-    match asked(rt)? {
+    let request = asked(rt)?.map_err(|misuse| anyhow!(
+        "{program}: {misuse}; try {program} --help"
+    ))?;
+    match request {
         Request::Help => {
             rt.stdout().write_all(help.as_bytes())?;
             Ok(None)
         }
-        Request::StandardInput => match read_standard(rt, most) {
-            Ok(input) => Ok(Some(input)),
-            Err(error) => Err(anyhow!("{program}: cannot read standard input: {error}")),
-        },
-        Request::File(name) => match read_file(rt, name.as_str(), most) {
-            Ok(input) => Ok(Some(input)),
-            Err(error) => Err(anyhow!("{program}: cannot read {name}: {error}")),
-        },
-        Request::UnknownFlag(flag) => Err(anyhow!(
-            "{program}: no flag {flag}; try {program} --help"
-        )),
-        Request::TooMany => Err(anyhow!("{program}: one file at most; try {program} --help")),
+        Request::StandardInput => {
+            let input = read_all(rt, rt.stdin(), most).map_err(|error| anyhow!(
+                "{program}: cannot read standard input: {error}"
+            ))?;
+            Ok(Some(input))
+        }
+        Request::File(name) => {
+            let input = read_file(rt, name.as_str(), most).map_err(|error| anyhow!(
+                "{program}: cannot read {name}: {error}"
+            ))?;
+            Ok(Some(input))
+        }
     }
 }
