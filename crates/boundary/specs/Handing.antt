@@ -1,12 +1,21 @@
 -- What a caller from another language finds. Assumes nothing.
---     Placed fits bs m m'     the bytes bs stand at the front of the memory m', and the rest is that of m; or they do not fit, and all is as it was
+--     number_of r             the number that tells what became of a day's text
+--     Placed r bs m m'        the bytes bs stand at the front of the memory m', and the rest is that of m; or they do not fit, and all is as it was
 --     Hands r input m m' n    r is what became of a day's text, m' what the memory m holds then, and n the length that is told
-use Rattle.std.specs.Prelude.{◌≡◌, ℕ, ◌<◌, ◌≤◌, Bool, true, false, List, ◌++◌, length, drop}
+use Rattle.std.specs.Prelude.{◌≡◌, ℕ, ◌<◌, ◌≤◌, List, ◌++◌, length, drop, Ok, Err, Result}
+use Rattle.boundary.specs.declared.Refusal.{Refusal}
+use Rattle.boundary.specs.declared.Refusal.TheVariants.{InputTooLong, BufferTooSmall, OutOfMemory}
 use Rattle.day.specs.Days.{Writes}
 
-abbrev pub Placed : Bool → List ℕ → List ℕ → List ℕ → Type 0
-Placed true bs m m' = (length bs ≤ length m) × (m' ≡ bs ++ drop (length bs) m)
-Placed false bs m m' = (length m < length bs) × (m' ≡ m)
+abbrev pub number_of : Result Unit Refusal → ℕ
+number_of (Ok t) = 0
+number_of (Err InputTooLong) = 1
+number_of (Err BufferTooSmall) = 2
+number_of (Err OutOfMemory) = 3
+
+abbrev pub Placed : Result Unit Refusal → List ℕ → List ℕ → List ℕ → Type 0
+Placed (Ok t) bs m m' = (length bs ≤ length m) × (m' ≡ bs ++ drop (length bs) m)
+Placed (Err r) bs m m' = (r ≡ BufferTooSmall) × (length m < length bs) × (m' ≡ m)
 
 -- 0 done · 1 the input is over 65,536 bytes · 2 the answer does not fit, and n is its length · 3 no memory to work in
 pub record Hands (r : ℕ) (input m m' : List ℕ) (n : ℕ) : Type 0 where
