@@ -64,15 +64,16 @@ letter_by (number n) p = Err (Unreadable p)
 letter_by (letter c) p = Ok c
 letter_by unreadable p = Err (Unreadable p)
 
--- the first of these fields as a number; p fields stand before it
-abbrev pub number_in : List (List ℕ) → ℕ → Result ℕ LineFault
-number_in [] p = Err (Unreadable (p + 1))
-number_in (f ∷ fs) p = number_by (word_of f) (p + 1)
+-- the first of these fields, read by its word and its place; p fields stand before it
+abbrev pub first_by : {A : Type 0} → (Word → ℕ → Result A LineFault) → List (List ℕ) → ℕ → Result A LineFault
+first_by by [] p = Err (Unreadable (p + 1))
+first_by by (f ∷ fs) p = by (word_of f) (p + 1)
 
--- the first of these fields as a letter; p fields stand before it
+abbrev pub number_in : List (List ℕ) → ℕ → Result ℕ LineFault
+number_in fs p = first_by number_by fs p
+
 abbrev pub letter_in : List (List ℕ) → ℕ → Result ℕ LineFault
-letter_in [] p = Err (Unreadable (p + 1))
-letter_in (f ∷ fs) p = letter_by (word_of f) (p + 1)
+letter_in fs p = first_by letter_by fs p
 
 abbrev pub rest_of : List (List ℕ) → List (List ℕ)
 rest_of [] = []
