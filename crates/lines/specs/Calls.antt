@@ -6,21 +6,15 @@
 --     read_header_of bs     the first line of a day
 --     read_call_of bs       every later line
 use Rattle.std.specs.Prelude.{ℕ, ◌+◌, cond, List, [], ◌∷◌, length, Some, None, Ok, Err, Option, Result, ◌==◌, nat_le, slice_index}
-use Rattle.values.specs.declared.terms.Letter.{Letter}
-use Rattle.values.specs.declared.terms.Letter.TheVariants as letter
 use Rattle.values.specs.declared.calls.Header.{Header}
 use Rattle.values.specs.declared.calls.Call.{Call}
 use Rattle.values.specs.declared.calls.Call.TheVariants as call
 use Rattle.values.specs.declared.faults.LineFault.{LineFault}
 use Rattle.values.specs.declared.faults.LineFault.TheVariants.{NoCall, FieldCount, Unreadable}
+use Rattle.values.specs.Terms.{letter_of}
 use Rattle.lines.specs.Words.{Word, number, letter, unreadable, word_of, fields}
 use Rattle.lines.specs.declared.calls.CallKind.{CallKind}
 use Rattle.lines.specs.declared.calls.CallKind.TheVariants.{Open, Away, Order, Cancel, Reply}
-
--- the letters that some field knows; another capital is kept as it came
-abbrev pub letter_of : ℕ → Letter
-letter_of c =
-    cond (c == 80) letter.P (cond (c == 77) letter.M (cond (c == 78) letter.N (cond (c == 66) letter.B (cond (c == 83) letter.S (cond (c == 67) letter.C (cond (c == 76) letter.L (cond (c == 73) letter.I (cond (c == 75) letter.K (cond (c == 82) letter.R (cond (c == 68) letter.D (letter.Unlisted c)))))))))))
 
 -- what stands in a field: a number, or a capital
 pub data Sort : Type 0 where

@@ -1,11 +1,10 @@
 // The header or the call that a line writes.
 ghost use Rattle.std.specs.Prelude.{◌≡◌, ℕ, ◌+◌, Option, length, option_map};
 ghost use Rattle.lines.specs.Handing.{left_of, Short};
-ghost use Rattle.lines.specs.Calls.{Form, letter_of, sorts_of, header_sorts, call_of, header_of, read_all, read_line, by_form, form_of, the_header, call_form, header_form, read_header_of, read_call_of};
+ghost use Rattle.lines.specs.Calls.{Form, sorts_of, header_sorts, call_of, header_of, read_all, read_line, by_form, form_of, the_header, call_form, header_form, read_header_of, read_call_of};
 ghost use Rattle.lines.specs.Laws.{width};
 
 use super::fields::Fields;
-use super::reading::Asked;
 use market::board::Quote;
 use values::calls::{Call, Header, OrderFields};
 use values::faults::LineFault;
@@ -53,10 +52,10 @@ impl Kind for HeaderKind {
     }
 
     fn read(self, mut fields: Fields) -> Result<Header, LineFault> {
-        let ladder = fields.read()?;
+        let ladder = fields.read::<char>()?;
         let width = fields.read()?;
         Ok(Header {
-            ladder: letter(ladder),
+            ladder: Letter::from(ladder),
             width,
         })
     }
@@ -94,20 +93,20 @@ fn order_in(mut fields: Fields) -> Result<Call, LineFault>
 {
     let id = fields.read()?;
     let firm = fields.read()?;
-    let side = fields.read()?;
-    let origin = fields.read()?;
-    let kind = fields.read()?;
-    let mark = fields.read()?;
+    let side = fields.read::<char>()?;
+    let origin = fields.read::<char>()?;
+    let kind = fields.read::<char>()?;
+    let mark = fields.read::<char>()?;
     let limit = fields.read()?;
     let size = fields.read()?;
     let protection = fields.read()?;
     Ok(Call::Order(OrderFields {
         id,
         firm,
-        side: letter(side),
-        origin: letter(origin),
-        kind: letter(kind),
-        mark: letter(mark),
+        side: Letter::from(side),
+        origin: Letter::from(origin),
+        kind: Letter::from(kind),
+        mark: Letter::from(mark),
         limit,
         size,
         protection,
@@ -165,26 +164,6 @@ impl Kind for CallKind {
             CallKind::Cancel => cancel_in(fields),
             CallKind::Reply => reply_in(fields),
         }
-    }
-}
-
-// The letters that some field knows; another capital is kept as it came.
-fn letter(capital: char) -> Letter
-    ensures { result ≡ letter_of capital }
-{
-    match capital {
-        'P' => Letter::P,
-        'M' => Letter::M,
-        'N' => Letter::N,
-        'B' => Letter::B,
-        'S' => Letter::S,
-        'C' => Letter::C,
-        'L' => Letter::L,
-        'I' => Letter::I,
-        'K' => Letter::K,
-        'R' => Letter::R,
-        'D' => Letter::D,
-        _ => Letter::Unlisted(capital),
     }
 }
 
