@@ -13,7 +13,7 @@ use values::terms::Letter;
 // The bytes of the longest line that is read.
 pub const LINE_LIMIT: usize = 80;
 
-// The kinds of lines that stand at one place of an input, and what is made of their fields.
+// The kinds of lines that one reader knows, and what it makes of the fields of each.
 trait Kind: Copy {
     type Made;
 
@@ -21,6 +21,7 @@ trait Kind: Copy {
 
     ghost forms: { ℕ → Option (Form Self.Made) };
 
+    // None, and no error of its own: to name no kind is a fault of the line, which the reader gives.
     fn named(letter: char) -> Option<Self>
         ensures { forms letter ≡ option_map form result };
 
