@@ -6,7 +6,8 @@ use Rattle.std.proofs.lemmas.Bool.{cases_eq}
 use Rattle.values.specs.declared.faults.LineFault.{LineFault}
 use Rattle.lines.specs.Digits.{is_number, value_of}
 use Rattle.lines.specs.Words.{Word, number, letter, unreadable, is_letter, word_of, fields}
-use Rattle.lines.specs.Calls.{Sort, num, cap, Form, rest_of, and_then, read_all, by_form, read_line, letter_of}
+use Rattle.values.specs.Terms.{letter_of}
+use Rattle.lines.specs.Calls.{Sort, num, cap, Form, rest_of, and_then, read_all, by_form, read_line}
 use Rattle.lines.specs.Laws.{by_first, named}
 use Rattle.lines.specs.Accepts.{Digits, Capital}
 use Rattle.lines.proofs.Naming.{line_named}

@@ -1,7 +1,6 @@
 pub mod Values
 pub mod Tests
 pub mod Cuts
-pub mod Splits
 pub mod Breaks
 pub mod Naming
 pub mod Leftmost

@@ -12,7 +12,7 @@ use Rattle.values.specs.declared.terms.Letter.TheVariants as letters
 use Rattle.values.specs.Texts.{capital, letter_text}
 use Rattle.lines.specs.Digits.{from_last, value_of, all_digits, is_number}
 use Rattle.lines.specs.Words.{number, letter, unreadable, is_letter, word_of}
-use Rattle.lines.specs.Calls.{letter_of}
+use Rattle.values.specs.Terms.{letter_of}
 use Rattle.lines.proofs.Tests.{digits_each}
 use Rattle.lines.proofs.Accepting.{digits_say, capital_is}
 

@@ -6,7 +6,8 @@ use Rattle.values.specs.Texts.{number, letters_text, header_text, call_text}
 use Rattle.lines.specs.declared.calls.CallKind.{CallKind}
 use Rattle.lines.specs.declared.calls.CallKind.TheVariants.{Open, Away, Order, Cancel, Reply}
 use Rattle.lines.specs.Words.{grown, word_of, fields}
-use Rattle.lines.specs.Calls.{Sort, num, cap, letter_of, sorts_of, call_of, header_sorts, header_of}
+use Rattle.values.specs.Terms.{letter_of}
+use Rattle.lines.specs.Calls.{Sort, num, cap, sorts_of, call_of, header_sorts, header_of}
 use Rattle.lines.specs.Rounds.{HeadersRewrite, CallsRewrite}
 use Rattle.lines.proofs.Cuts.{tab, other, some_field}
 use Rattle.lines.proofs.Accepting.{word_for, Ends, numbers, made_is}

@@ -1,17 +1,9 @@
--- A test of every byte, one byte on. Assumes nothing.
-use Rattle.std.proofs.Common.{◌≡◌, ℕ, zero, suc, ◌+◌, ◌-◌, ◌<◌, ◌≤◌, true, cond, not, ◌&&◌, ◌||◌, eqb, leb, List, [], ◌∷◌, length, get_or, drop, ap, add-one, arith, drop-cons}
-use Rattle.std.proofs.lemmas.List.{drop_all}
+-- What the tests of a field's bytes say of each byte. Assumes nothing.
+use Rattle.std.proofs.Common.{◌≡◌, ℕ, zero, suc, ◌-◌, ◌≤◌, true, cond, not, ◌&&◌, ◌||◌, eqb, leb, List, [], ◌∷◌, length, get_or, arith}
 use Rattle.std.proofs.lemmas.Bool.{leb-true, and_parts}
 use Rattle.std.proofs.lemmas.Bool.Decides.{nat_tests}
 use Rattle.lines.specs.Words.{number, letter, unreadable, word_of}
 use Rattle.lines.specs.Digits.{AllDigits, is_digit, all_digits, is_number}
-
--- as a loop at i meets them
-pub digits_at : (bs : List ℕ) (i : ℕ) → i < length bs → all_digits (drop i bs) ≡ (is_digit (get_or bs i 0) && all_digits (drop (i + 1) bs))
-digits_at bs i h = rw (add-one, drop-cons bs i 0)
-
-pub digits_end : (bs : List ℕ) (i : ℕ) → length bs ≤ i → all_digits (drop i bs) ≡ true
-digits_end bs i h = ap all_digits (drop_all i bs h)
 
 pub digits_each : (bs : List ℕ) → all_digits bs ≡ true → AllDigits bs
 digits_each [] all k h = absurd (omega arith)

@@ -11,7 +11,8 @@ use Rattle.values.specs.declared.calls.Call.{Call}
 use Rattle.values.specs.declared.calls.Call.TheVariants.{Open, Away, Order, Cancel, Reply}
 use Rattle.lines.specs.Digits.{is_number, value_of}
 use Rattle.lines.specs.Words.{is_letter, fields}
-use Rattle.lines.specs.Calls.{letter_of, read_header_of, read_call_of}
+use Rattle.values.specs.Terms.{letter_of}
+use Rattle.lines.specs.Calls.{read_header_of, read_call_of}
 
 abbrev pub Digits : List ℕ → ℕ → Type 0
 Digits f n = (is_number f ≡ true) × (n ≡ value_of f)

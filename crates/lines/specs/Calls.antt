@@ -6,21 +6,15 @@
 --     read_header_of bs     the first line of a day
 --     read_call_of bs       every later line
 use Rattle.std.specs.Prelude.{ℕ, ◌+◌, cond, List, [], ◌∷◌, length, Some, None, Ok, Err, Option, Result, ◌==◌, nat_le, slice_index}
-use Rattle.values.specs.declared.terms.Letter.{Letter}
-use Rattle.values.specs.declared.terms.Letter.TheVariants as letter
 use Rattle.values.specs.declared.calls.Header.{Header}
 use Rattle.values.specs.declared.calls.Call.{Call}
 use Rattle.values.specs.declared.calls.Call.TheVariants as call
 use Rattle.values.specs.declared.faults.LineFault.{LineFault}
 use Rattle.values.specs.declared.faults.LineFault.TheVariants.{NoCall, FieldCount, Unreadable}
+use Rattle.values.specs.Terms.{letter_of}
 use Rattle.lines.specs.Words.{Word, number, letter, unreadable, word_of, fields}
 use Rattle.lines.specs.declared.calls.CallKind.{CallKind}
 use Rattle.lines.specs.declared.calls.CallKind.TheVariants.{Open, Away, Order, Cancel, Reply}
-
--- the letters that some field knows; another capital is kept as it came
-abbrev pub letter_of : ℕ → Letter
-letter_of c =
-    cond (c == 80) letter.P (cond (c == 77) letter.M (cond (c == 78) letter.N (cond (c == 66) letter.B (cond (c == 83) letter.S (cond (c == 67) letter.C (cond (c == 76) letter.L (cond (c == 73) letter.I (cond (c == 75) letter.K (cond (c == 82) letter.R (cond (c == 68) letter.D (letter.Unlisted c)))))))))))
 
 -- what stands in a field: a number, or a capital
 pub data Sort : Type 0 where
@@ -64,15 +58,16 @@ letter_by (number n) p = Err (Unreadable p)
 letter_by (letter c) p = Ok c
 letter_by unreadable p = Err (Unreadable p)
 
--- the first of these fields as a number; p fields stand before it
-abbrev pub number_in : List (List ℕ) → ℕ → Result ℕ LineFault
-number_in [] p = Err (Unreadable (p + 1))
-number_in (f ∷ fs) p = number_by (word_of f) (p + 1)
+-- the first of these fields, read by its word and its place; p fields stand before it
+abbrev pub first_by : {A : Type 0} → (Word → ℕ → Result A LineFault) → List (List ℕ) → ℕ → Result A LineFault
+first_by by [] p = Err (Unreadable (p + 1))
+first_by by (f ∷ fs) p = by (word_of f) (p + 1)
 
--- the first of these fields as a letter; p fields stand before it
+abbrev pub number_in : List (List ℕ) → ℕ → Result ℕ LineFault
+number_in fs p = first_by number_by fs p
+
 abbrev pub letter_in : List (List ℕ) → ℕ → Result ℕ LineFault
-letter_in [] p = Err (Unreadable (p + 1))
-letter_in (f ∷ fs) p = letter_by (word_of f) (p + 1)
+letter_in fs p = first_by letter_by fs p
 
 abbrev pub rest_of : List (List ℕ) → List (List ℕ)
 rest_of [] = []

@@ -3,6 +3,7 @@
 --     left_of rest               the fields that are still to be handed out
 --     Pulled                     one field is handed out with its place, or none is left
 --     Short rest                 at most eighty bytes are left
+--     room rest                  how many fields the bytes that are left have room for
 use Rattle.std.specs.Prelude.{◌≡◌, ℕ, ◌+◌, ◌≤◌, List, [], ◌∷◌, length, Some, None, Option}
 use Rattle.std.specs.Borrow.{Bor}
 use Rattle.lines.specs.Words.{Word, number, letter, unreadable, word_of, fields}
@@ -30,3 +31,8 @@ Pulled before p (Some (f, k)) after q = (before ≡ bytes_in f ∷ after) × (wo
 abbrev pub Short : Option (Bor (List ℕ)) → Type 0
 Short None = Unit {0}
 Short (Some r) = length r.now ≤ 80
+
+-- a tab is a byte, so that no more fields come than there are bytes, and one
+abbrev pub room : Option (Bor (List ℕ)) → ℕ
+room None = 0
+room (Some r) = length r.now + 1

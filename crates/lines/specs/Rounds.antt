@@ -9,7 +9,8 @@ use Rattle.values.specs.declared.calls.Header.{Header}
 use Rattle.values.specs.declared.calls.Call.{Call}
 use Rattle.values.specs.declared.calls.Call.TheVariants.{Open, Away, Order, Cancel, Reply}
 use Rattle.values.specs.Texts.{capital, header_text, call_text}
-use Rattle.lines.specs.Calls.{letter_of, read_header_of, read_call_of}
+use Rattle.values.specs.Terms.{letter_of}
+use Rattle.lines.specs.Calls.{read_header_of, read_call_of}
 
 -- every listed letter is plain, and an unlisted one where it is a capital that is not in the list
 abbrev pub Plain : Letter → Type 0

@@ -18,12 +18,7 @@ fn value(digits: &[u8]) -> u32
 fn all_digits(bytes: &[u8]) -> bool
     ensures { result ≡ all_digits bytes.now }
 {
-    for b in bytes {
-        if *b < b'0' || *b > b'9' {
-            return false;
-        }
-    }
-    true
+    bytes.iter().all(|b| b.is_ascii_digit())
 }
 
 // One to eight digits, with no leading zero but 0 itself.

@@ -1,9 +1,11 @@
 // The fields of a line, handed out one at a time with their places.
-ghost use Rattle.std.specs.Prelude.{◌≡◌, ℕ, ◌+◌, ◌<◌, ◌≤◌, length, ◌≢◌, slice_index};
+ghost use Rattle.std.specs.Prelude.{◌≡◌, ◌+◌, ◌≤◌, length};
+ghost use Rattle.std.specs.Iterator.{at_most};
 ghost use Rattle.lines.specs.Words.{word_of, fields};
-ghost use Rattle.lines.specs.Handing.{word_in, bytes_in, left_of, Pulled};
+ghost use Rattle.lines.specs.Handing.{word_in, bytes_in, left_of, room, Pulled, Short};
 
 use super::digits::numeral;
+use super::parts::split_at_first;
 
 // What a field says, with its bytes.
 #[derive(Clone, Copy)]
@@ -28,33 +30,12 @@ pub fn read_field(bytes: &[u8]) -> Field<'_>
     }
 }
 
-// Where the first tab stands, or the length.
-fn until_tab(line: &[u8]) -> usize
-    ensures within { result ≤ length line.now }
-    ensures before { (k : ℕ) → k < result → slice_index line.now k ≢ 9 }
-    ensures found { result < length line.now → slice_index line.now result ≡ 9 }
-{
-    for (i, b) in line.iter().enumerate() {
-        if *b == b'\t' {
-            return i;
-        }
-    }
-    line.len()
-}
-
-// How many fields stand in the bytes, one more than tabs. Only the reader of a line calls it, which has looked at the length.
-pub(crate) fn field_count(line: &[u8]) -> u32
-    requires { length line.now ≤ 80 }
+// How many fields stand in the bytes, one more than tabs.
+fn field_count(line: &[u8]) -> usize
     ensures small { result ≤ length line.now + 1 }
     ensures value { result ≡ length (fields line.now) }
 {
-    let mut count: u8 = 1;
-    for b in line {
-        if *b == b'\t' {
-            count += 1;
-        }
-    }
-    u32::from(count)
+    line.iter().filter(|b| **b == b'\t').count() + 1
 }
 
 // What is left of a line, and how many of its fields were handed out. A line that ends in a tab has an empty last field,
@@ -63,25 +44,42 @@ pub(crate) fn field_count(line: &[u8]) -> u32
 pub struct Fields<'a> {
     pub(crate) rest: Option<&'a [u8]>,
     pub(crate) place: u32,
+    ghost few: { room rest + place ≤ 82 },
 }
 
 impl<'a> Fields<'a> {
-    // The next field with its place. A line has at most 81 fields, so that the reader of a line meets the bound.
-    pub(crate) fn next(&mut self) -> Option<(Field<'a>, u32)>
-        requires { self.old.place < 1000 }
-        ensures { Pulled (left_of self.old.rest) self.old.place result (left_of self.new.rest) self.new.place }
+    // The fields behind a line's kind.
+    pub(crate) fn after_kind(rest: Option<&'a [u8]>) -> Self
+        requires { Short rest }
+        ensures left { left_of result.rest ≡ left_of rest.entry }
+        ensures place { result.place ≡ 1 }
     {
-        let Some(line) = self.rest else {
-            return None;
-        };
-        let n = until_tab(line);
-        let field = read_field(&line[0..n]);
+        Fields { rest, place: 1 }
+    }
+
+    // How many fields the line has, the kind among them.
+    pub(crate) fn width(&self) -> u32
+        ensures { result ≡ length (left_of self.now.rest) + self.now.place }
+    {
+        match self.rest {
+            Some(bytes) => field_count(bytes) as u32 + self.place,
+            None => self.place,
+        }
+    }
+}
+
+impl<'a> Iterator for Fields<'a> {
+    type Item = (Field<'a>, u32);
+
+    ghost next_gives = { λ s r t. Pulled (left_of s.rest) s.place r (left_of t.rest) t.place };
+
+    ghost remaining = { λ s. at_most (room s.rest) };
+
+    // The next field with its place.
+    fn next(&mut self) -> Option<(Field<'a>, u32)> {
+        let (field, rest) = split_at_first(b'\t', self.rest?);
         self.place += 1;
-        self.rest = if n < line.len() {
-            Some(&line[n + 1..])
-        } else {
-            None
-        };
-        Some((field, self.place))
+        self.rest = rest;
+        Some((read_field(field), self.place))
     }
 }

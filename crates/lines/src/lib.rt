@@ -7,4 +7,6 @@ pub mod calls;
 pub mod digits;
 pub mod fields;
 pub mod laws;
+pub mod parts;
+mod reading;
 pub mod records;

@@ -1,23 +1,12 @@
 // The lines of an input.
-ghost use Rattle.std.specs.Prelude.{◌≡◌, ℕ, ◌<◌, ◌≤◌, true, length, is_some, ◌≢◌, slice_index};
-ghost use Rattle.lines.specs.Inputs.{lines_of, Handed};
+ghost use Rattle.std.specs.Prelude.{length};
+ghost use Rattle.std.specs.Iterator.{YieldsFirstRef, at_most};
+ghost use Rattle.lines.specs.Inputs.{lines_of};
+
+use super::parts::split_at_first;
 
 // A longer input is refused whole.
 pub const INPUT_LIMIT: usize = 65_536;
-
-// Where the first line break stands, or the length.
-fn until_break(bytes: &[u8]) -> usize
-    ensures within { result ≤ length bytes.now }
-    ensures before { (k : ℕ) → k < result → slice_index bytes.now k ≢ 10 }
-    ensures found { result < length bytes.now → slice_index bytes.now result ≡ 10 }
-{
-    for (i, b) in bytes.iter().enumerate() {
-        if *b == b'\n' {
-            return i;
-        }
-    }
-    bytes.len()
-}
 
 // What is left of an input. Each line is ended by byte 10, which the last may lack; empty input is no line.
 #[derive(Drop)]
@@ -25,22 +14,19 @@ pub struct Records<'a> {
     pub rest: &'a [u8],
 }
 
-impl<'a> Records<'a> {
-    pub fn next(&mut self) -> Option<&'a [u8]>
-        ensures handed { Handed (lines_of self.old.rest.now) result (lines_of self.new.rest.now) }
-        ensures shorter { is_some result ≡ true → length self.new.rest.now < length self.old.rest.now }
-    {
-        let bytes = self.rest;
-        if bytes.is_empty() {
+impl<'a> Iterator for Records<'a> {
+    type Item = &'a [u8];
+
+    ghost next_gives = { YieldsFirstRef (λ s. lines_of s.rest.now) };
+
+    ghost remaining = { λ s. at_most (length s.rest.now) };
+
+    fn next(&mut self) -> Option<&'a [u8]> {
+        if self.rest.is_empty() {
             return None;
         }
-        let n = until_break(bytes);
-        if n < bytes.len() {
-            self.rest = &bytes[n + 1..];
-            Some(&bytes[0..n])
-        } else {
-            self.rest = &bytes[n..];
-            Some(bytes)
-        }
+        let (line, after) = split_at_first(b'\n', self.rest);
+        self.rest = after.unwrap_or_default();
+        Some(line)
     }
 }

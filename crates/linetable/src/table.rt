@@ -86,8 +86,7 @@ fn judge_all(out: &mut String, input: &[u8]) -> Result<(), AllocError>
     ensures { OnOk result (string_bytes out.new ≡ string_bytes out.old ++ table Stage.First (lines_of input.now)) }
 {
     let mut stage = Stage::First;
-    let mut records = Records { rest: input };
-    while let Some(line) = records.next() {
+    for line in (Records { rest: input }) {
         let (answer, next) = judge(stage, line);
         tell(out, answer)?;
         stage = next;

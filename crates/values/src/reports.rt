@@ -46,6 +46,11 @@ pub enum Report {
     },
 }
 
+impl Report {
+    // What memory for reports is filled with before the first.
+    pub const BLANK: Report = Report::New { arrival: 0, id: 0 };
+}
+
 // Contracts sent to an away exchange.
 #[derive(Clone, Copy)]
 pub struct Slip {
@@ -54,4 +59,15 @@ pub struct Slip {
     pub exchange: u32,
     pub price: u32,
     pub size: u32,
+}
+
+impl Slip {
+    // What memory for slips is filled with before the first.
+    pub const BLANK: Slip = Slip {
+        number: 0,
+        arrival: 0,
+        exchange: 0,
+        price: 0,
+        size: 0,
+    };
 }

@@ -1,13 +1,14 @@
-use Rattle.std.proofs.Common.{arith, rules}
-use Rattle.std.proofs.lemmas.Bool.Decides.{nat_tests}
-use Rattle.lines.proofs.Tests.{digits_at, digits_end}
+use Rattle.std.proofs.Common.{◌≡◌, ℕ, List, [], ◌∷◌, ◌&&◌, refl, ap, ◌∙◌, rules, tests}
+use Rattle.std.specs.List.{list_all}
+use Rattle.std.proofs.lemmas.Iterator.{YieldsList-from_slice}
+use Rattle.std.proofs.lemmas.Iterator.Search.{all_from_yields_List}
+use Rattle.lines.specs.Digits.{is_digit, all_digits}
 use Rattle.lines.proofs.digits.all_digits.Goals as goal
 
-pub returns-then-b-lt48 : goal.returns-then-b-lt48
-returns-then-b-lt48 c = let e = digits_at c.args.bytes.now c.loop-b.b-index (search rules) in grind (arith, nat_tests)
-
-pub loop-b-preserved : goal.loop-b-preserved
-loop-b-preserved c = let e = digits_at c.args.bytes.now c.loop-b.b-index (search rules) in grind (arith, nat_tests)
+each : (bs : List ℕ) → list_all is_digit bs ≡ all_digits bs
+each [] = refl
+each (b ∷ bs) = ap (λ r. is_digit b && r) (each bs)
 
 pub returns : goal.returns
-returns c = let e = digits_end c.args.bytes.now c.loop-b.b-index (search rules) in cc
+returns c =
+    all_from_yields_List is_digit _ _ _ c.all.ensures.ran (YieldsList-from_slice c.args.bytes.now (cc)) (λ x b q k. search (rules, tests)) ∙ each c.args.bytes.now

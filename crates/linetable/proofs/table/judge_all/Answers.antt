@@ -23,7 +23,7 @@ last was s none sofar = sym (append-nil was) ∙ ap (λ l. was ++ table s l) (sy
 pub loop-line-preserved : goal.loop-line-preserved
 loop-line-preserved c =
     step (string_bytes c.loop-line.out) c.in-Some.line.now (lines_of c.next.new.self.rest.now) c.loop-line.stage c.judge-answer.result
-    c.in-Some.ensures.handed c.judge-answer.ensures c.in_ok-tell.ensures c.loop-line.invariant
+    c.in-Some.ensures.steps c.judge-answer.ensures c.in_ok-tell.ensures c.loop-line.invariant
 
 pub returns : goal.returns
-returns c = last (string_bytes c.loop-line.out) c.loop-line.stage c.in_default.ensures.handed.0 c.loop-line.invariant
+returns c = last (string_bytes c.loop-line.out) c.loop-line.stage c.in-None.ensures.steps.0 c.loop-line.invariant

@@ -1,4 +1,4 @@
-use Rattle.std.proofs.Common.{◌≡◌, ◌++◌, length, string_bytes}
+use Rattle.std.proofs.Common.{◌≡◌, ◌++◌, string_bytes}
 use Rattle.lines.specs.Inputs.{lines_of}
 use Rattle.linetable.specs.Table.{table}
 use Rattle.linetable.specs.declared.table.Stage.TheVariants.{First}
@@ -6,7 +6,4 @@ use Rattle.linetable.proofs.table.judge_all.Given as goal
 
 -- what is written, with what is still to come, is all
 abbrev pub invariant-loop-line : goal.invariant-loop-line
-invariant-loop-line l = string_bytes l.out ++ table l.stage (lines_of l.records.rest.now) ≡ string_bytes l.initial.out ++ table First (lines_of l.input)
-
-abbrev pub decreases-loop-line : goal.decreases-loop-line
-decreases-loop-line l = length l.records.rest.now
+invariant-loop-line l = string_bytes l.out ++ table l.stage (lines_of l.line-iterator.rest.now) ≡ string_bytes l.initial.out ++ table First (lines_of l.input)

@@ -1,6 +1,0 @@
-use Rattle.std.proofs.Common.{◌≡◌, drop}
-use Rattle.lines.specs.Digits.{all_digits}
-use Rattle.lines.proofs.digits.all_digits.Given as goal
-
-abbrev pub invariant-loop-b : goal.invariant-loop-b
-invariant-loop-b l = all_digits l.bytes ≡ all_digits (drop l.b-index l.bytes)
