@@ -1,16 +1,16 @@
 // How everything is written: a letter, then the fields, each after a tab.
-ghost use Rattle.std.specs.Prelude.{◌≡◌, ◌++◌, Some, string_bytes, OnOk};
-ghost use Rattle.std.specs.List.{flat_map};
+ghost use Rattle.std.specs.Prelude.{◌≡◌, Some};
 ghost use Rattle.values.specs.Codes.{number_of};
-ghost use Rattle.values.specs.Texts.{capital, letter_text, letters_text, initial, layer_text, report_text, slip_text, fault_text, header_text, order_text, call_text, ended};
+ghost use Rattle.values.specs.Texts.{capital, letter_text, letters_text, initial, layer_text, report_text, slip_text, fault_text, header_text, order_text, call_text};
 
 use super::calls::{Call, Header, OrderFields};
 use super::faults::{Code, Fault, Layer};
 use super::reports::{Cause, Report, Slip};
 use super::terms::Letter;
 use market::board::Quote;
-use std::alloc::AllocError;
 use std::fmt;
+
+pub use super::writing::{put_fault, put_line, put_lines, put_reports, put_slips};
 
 impl Letter {
     // The character of a letter field.
@@ -223,53 +223,4 @@ impl fmt::Display for Call {
             Call::Reply { slip, filled } => write!(f, "R\t{slip}\t{filled}"),
         }
     }
-}
-
-// Each on a line of its own.
-pub fn put_report(out: &mut String, report: Report) -> Result<(), AllocError>
-    ensures { OnOk result (string_bytes out.new ≡ string_bytes out.old ++ ended report_text report) }
-{
-    writeln!(out, "{report}")
-}
-
-pub fn put_slip(out: &mut String, slip: Slip) -> Result<(), AllocError>
-    ensures { OnOk result (string_bytes out.new ≡ string_bytes out.old ++ ended slip_text slip) }
-{
-    writeln!(out, "{slip}")
-}
-
-pub fn put_fault(out: &mut String, fault: Fault) -> Result<(), AllocError>
-    ensures { OnOk result (string_bytes out.new ≡ string_bytes out.old ++ ended fault_text fault) }
-{
-    writeln!(out, "{fault}")
-}
-
-pub fn put_header(out: &mut String, header: Header) -> Result<(), AllocError>
-    ensures { OnOk result (string_bytes out.new ≡ string_bytes out.old ++ ended header_text header) }
-{
-    writeln!(out, "{header}")
-}
-
-pub fn put_call(out: &mut String, call: Call) -> Result<(), AllocError>
-    ensures { OnOk result (string_bytes out.new ≡ string_bytes out.old ++ ended call_text call) }
-{
-    writeln!(out, "{call}")
-}
-
-pub fn put_reports(out: &mut String, reports: &[Report]) -> Result<(), AllocError>
-    ensures { OnOk result (string_bytes out.new ≡ string_bytes out.old ++ flat_map (ended report_text) reports.now) }
-{
-    for report in reports {
-        put_report(out, *report)?;
-    }
-    Ok(())
-}
-
-pub fn put_slips(out: &mut String, slips: &[Slip]) -> Result<(), AllocError>
-    ensures { OnOk result (string_bytes out.new ≡ string_bytes out.old ++ flat_map (ended slip_text) slips.now) }
-{
-    for slip in slips {
-        put_slip(out, *slip)?;
-    }
-    Ok(())
 }

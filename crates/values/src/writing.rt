@@ -2,13 +2,14 @@
 // A line is gathered from its end, since the last digit of a number is the first to be known, and then appended.
 // It stands before place 64 and has at most 57 bytes: a letter, five numbers of ten digits with a tab before each, and
 // byte 10.
-ghost use Rattle.std.specs.Prelude.{◌≡◌, ◌+◌, ◌<◌, ◌≤◌, [], ◌∷◌, ◌++◌, OnOk};
+ghost use Rattle.std.specs.Prelude.{◌≡◌, ℕ, ◌+◌, ◌<◌, ◌≤◌, List, [], ◌∷◌, ◌++◌, Some, OnOk, IfSome, string_bytes, refl};
 ghost use Rattle.std.specs.List.{flat_map};
 ghost use Rattle.values.specs.Texts.{number, report_text, slip_text, fault_text, ended, text_from};
 
 use super::faults::{Code, Fault};
 use super::reports::{Report, Slip};
 use std::alloc::AllocError;
+use std::fmt;
 use std::mem::replace;
 
 // The byte before the text that begins at `end`; where the text begins then.
@@ -166,44 +167,106 @@ fn append(out: &mut Vec<u8>, line: &[u8; 128], start: usize) -> Result<(), Alloc
     done
 }
 
-pub fn put_report(out: &mut Vec<u8>, report: Report) -> Result<(), AllocError>
-    ensures { OnOk result (out.new.items ≡ out.old.items ++ ended report_text report) }
-{
-    let mut line = [b'\n'; 128];
-    let start = gather_report(&mut line, report);
-    append(out, &line, start)
+// What is written on a line of its own.
+pub trait Line: fmt::Display + Copy {
+    // Its bytes, without the byte 10 that ends the line.
+    ghost text: { Self → List ℕ };
+
+    // Gathered before the byte 10 at the end; where the line begins.
+    fn gather(self, line: &mut [u8; 128]) -> usize
+        requires { text_from 63 line.old ≡ 10 ∷ [] }
+        ensures text { text_from result line.new ≡ ended text self }
+        ensures place { result ≤ 64 };
+
+    ghost displayed: { (x : Self) → Self.output x ≡ Some (text x) };
 }
 
-pub fn put_slip(out: &mut Vec<u8>, slip: Slip) -> Result<(), AllocError>
-    ensures { OnOk result (out.new.items ≡ out.old.items ++ ended slip_text slip) }
-{
-    let mut line = [b'\n'; 128];
-    let start = gather_slip(&mut line, slip);
-    append(out, &line, start)
+impl Line for Report {
+    ghost text = { report_text };
+
+    ghost displayed = { λ _. refl };
+
+    fn gather(self, line: &mut [u8; 128]) -> usize {
+        gather_report(line, self)
+    }
 }
 
-pub fn put_fault(out: &mut Vec<u8>, fault: Fault) -> Result<(), AllocError>
-    ensures { OnOk result (out.new.items ≡ out.old.items ++ ended fault_text fault) }
-{
-    let mut line = [b'\n'; 128];
-    let start = gather_fault(&mut line, fault);
-    append(out, &line, start)
+impl Line for Slip {
+    ghost text = { slip_text };
+
+    ghost displayed = { λ _. refl };
+
+    fn gather(self, line: &mut [u8; 128]) -> usize {
+        gather_slip(line, self)
+    }
 }
 
-pub fn put_reports(out: &mut Vec<u8>, reports: &[Report]) -> Result<(), AllocError>
-    ensures { OnOk result (out.new.items ≡ out.old.items ++ flat_map (ended report_text) reports.now) }
+impl Line for Fault {
+    ghost text = { fault_text };
+
+    ghost displayed = { λ _. refl };
+
+    fn gather(self, line: &mut [u8; 128]) -> usize {
+        gather_fault(line, self)
+    }
+}
+
+// What lines are written to, each after what is written already.
+pub trait Sink {
+    ghost bytes: { Self → List ℕ };
+
+    fn put<L: Line>(&mut self, line: L) -> Result<(), AllocError>
+        ensures { OnOk result (bytes self.new ≡ bytes self.old ++ ended L.Line.text line) };
+}
+
+impl Sink for String {
+    ghost bytes = { string_bytes };
+
+    fn put<L: Line>(&mut self, line: L) -> Result<(), AllocError> {
+        writeln!(self, "{line}")
+    }
+}
+
+impl Sink for Vec<u8> {
+    ghost bytes = { λ v. v.items };
+
+    fn put<L: Line>(&mut self, line: L) -> Result<(), AllocError> {
+        let mut memory = [b'\n'; 128];
+        let start = line.gather(&mut memory);
+        append(self, &memory, start)
+    }
+}
+
+pub fn put_lines<S: Sink, L: Line>(out: &mut S, lines: &[L]) -> Result<(), AllocError>
+    ensures { OnOk result (S.Sink.bytes out.new ≡ S.Sink.bytes out.old ++ flat_map (ended L.Line.text) lines.now) }
 {
-    for report in reports {
-        put_report(out, *report)?;
+    for line in lines {
+        out.put(*line)?;
     }
     Ok(())
 }
 
-pub fn put_slips(out: &mut Vec<u8>, slips: &[Slip]) -> Result<(), AllocError>
-    ensures { OnOk result (out.new.items ≡ out.old.items ++ flat_map (ended slip_text) slips.now) }
+pub fn put_fault<S: Sink>(out: &mut S, fault: Fault) -> Result<(), AllocError>
+    ensures { OnOk result (S.Sink.bytes out.new ≡ S.Sink.bytes out.old ++ ended fault_text fault) }
 {
-    for slip in slips {
-        put_slip(out, *slip)?;
-    }
-    Ok(())
+    out.put(fault)
+}
+
+pub fn put_reports<S: Sink>(out: &mut S, reports: &[Report]) -> Result<(), AllocError>
+    ensures { OnOk result (S.Sink.bytes out.new ≡ S.Sink.bytes out.old ++ flat_map (ended report_text) reports.now) }
+{
+    put_lines(out, reports)
+}
+
+pub fn put_slips<S: Sink>(out: &mut S, slips: &[Slip]) -> Result<(), AllocError>
+    ensures { OnOk result (S.Sink.bytes out.new ≡ S.Sink.bytes out.old ++ flat_map (ended slip_text) slips.now) }
+{
+    put_lines(out, slips)
+}
+
+// Anything else that is displayed, on a line of its own.
+pub fn put_line<D: fmt::Display + Copy>(out: &mut String, line: D) -> Result<(), AllocError>
+    ensures { OnOk result (IfSome (D.Display.output line) (λ text. string_bytes out.new ≡ string_bytes out.old ++ text ++ 10 ∷ [])) }
+{
+    writeln!(out, "{line}")
 }
