@@ -1,5 +1,4 @@
 -- What is written for a day's input: a run of a new series, told line by line. Assumes nothing.
---     started bytes           the settings that a first line gives, or its fault
 --     Outcome                 what came of a line after the first: it is no call, or an event of the series
 --     text o                  what is written for it: the fault; or the reports and then the slips of an accepted call
 --     Fits line o             o is an outcome of this line: its fault as it is read, or an event of the call that it writes
@@ -12,34 +11,20 @@
 use Rattle.std.specs.Prelude.{◌≡◌, ℕ, Bool, true, false, List, [], ◌∷◌, ◌++◌, length, Ok, Err, Result, nat_le}
 use Rattle.std.specs.List.{flat_map}
 use Rattle.market.specs.Any.{rungs_of}
-use Rattle.values.specs.declared.calls.Header.{Header}
 use Rattle.values.specs.declared.faults.Fault.{Fault}
 use Rattle.values.specs.declared.faults.LineFault.{LineFault}
 use Rattle.values.specs.declared.faults.LineFault.TheVariants.{NoCall}
-use Rattle.values.specs.declared.faults.CheckFault.{CheckFault}
-use Rattle.values.specs.Codes.{of_line, of_check}
+use Rattle.values.specs.Codes.{of_line}
 use Rattle.values.specs.Texts.{ended, report_text, slip_text, fault_text}
 use Rattle.checks.specs.declared.checked.Settings.{Settings}
-use Rattle.checks.specs.Checked.{checked_header}
-use Rattle.lines.specs.Calls.{read_call_of, read_header_of}
+use Rattle.lines.specs.Calls.{read_call_of}
 use Rattle.lines.specs.Inputs.{lines_of}
+use Rattle.opening.specs.Opening.{started}
 use Rattle.rules.specs.declared.Room.{Room}
 use Rattle.rules.specs.States.{State}
 use Rattle.rules.specs.Steps.{Event, Step, Run}
 use Rattle.rules.specs.Steps.Event.{did, refused}
 use Rattle.rules.specs.Law.{Lawful, Kept}
-
--- ---- the first line
-abbrev pub settings_or : Result Settings CheckFault → Result Settings Fault
-settings_or (Ok s) = Ok s
-settings_or (Err f) = Err (of_check f)
-
-abbrev pub header_or : Result Header LineFault → Result Settings Fault
-header_or (Ok h) = settings_or (checked_header h)
-header_or (Err f) = Err (of_line f)
-
-abbrev pub started : List ℕ → Result Settings Fault
-started bytes = header_or (read_header_of bytes)
 
 -- ---- every later line
 pub data Outcome : Type 0 where
@@ -85,13 +70,6 @@ Moves R s (came e) s' = Step R s e s'
 abbrev pub Comes : (ℕ → Bool) → State → List Outcome → State → Type 0
 Comes R s [] s' = s' ≡ s
 Comes R s (o ∷ os) s' = (t : State) × Moves R s o t × Comes R t os s'
-
--- lines that are answered one after the other
-pub record Answered (R : ℕ → Bool) (s : State) (lines : List (List ℕ)) (out : List ℕ) (s' : State) : Type 0 where
-  pub outcomes : List Outcome
-  pub answers : Answers lines outcomes
-  pub written : out ≡ flat_map text outcomes
-  pub comes : Comes R s outcomes s'
 
 -- ---- the whole day
 pub record Day (R : ℕ → Bool) (wide : Bool) (lines : List (List ℕ)) (out : List ℕ) : Type 0 where
