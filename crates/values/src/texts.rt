@@ -7,10 +7,9 @@ use super::calls::{Call, Header, OrderFields};
 use super::faults::{Code, Fault, Layer};
 use super::reports::{Cause, Report, Slip};
 use super::terms::Letter;
+pub use super::writing::{put_fault, put_line, put_lines, put_reports, put_slips};
 use market::board::Quote;
 use std::fmt;
-
-pub use super::writing::{put_fault, put_line, put_lines, put_reports, put_slips};
 
 impl Letter {
     // The character of a letter field.

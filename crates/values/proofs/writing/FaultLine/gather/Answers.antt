@@ -1,7 +1,7 @@
 use Rattle.std.proofs.Common.{[], ◌∷◌, ap, ◌∙◌, ap₂, append_assoc, arith}
 use Rattle.values.specs.declared.faults.Code.{Code}
 use Rattle.values.specs.Texts.{number, initial}
-use Rattle.values.proofs.writing.gather_fault.Goals as goal
+use Rattle.values.proofs.writing.FaultLine.gather.Goals as goal
 
 pub returns : goal.returns
 returns c =
