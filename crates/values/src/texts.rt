@@ -12,7 +12,7 @@ use market::board::Quote;
 use std::fmt;
 
 impl Letter {
-    // The character of a letter field.
+    // The character of a letter field. A method, as the two below are: `char::from(letter)` would not say which character.
     pub fn capital(self) -> char
         ensures { result ≡ capital self }
     {
