@@ -1,5 +1,5 @@
-// Reports, slips and faults as bytes, each on a line of its own.
-// A line is gathered from its end, since the last digit of a number is the first to be known, and then appended.
+// Reports, slips and faults, each on a line of its own, into a string or into bytes.
+// Among bytes a line is gathered from its end, since the last digit of a number is the first to be known, and then appended.
 // It stands before place 64 and has at most 57 bytes: a letter, five numbers of ten digits with a tab before each, and
 // byte 10.
 ghost use Rattle.std.specs.Prelude.{◌≡◌, ℕ, ◌+◌, ◌<◌, ◌≤◌, List, [], ◌∷◌, ◌++◌, Some, OnOk, IfSome, string_bytes, refl};
@@ -199,6 +199,7 @@ pub fn put_lines<S: Sink, L: Line>(out: &mut S, lines: &[L]) -> Result<(), Alloc
     Ok(())
 }
 
+// The names by which the crates above write what a series answers.
 pub fn put_fault<S: Sink>(out: &mut S, fault: Fault) -> Result<(), AllocError>
     ensures { OnOk result (S.Sink.bytes out.new ≡ S.Sink.bytes out.old ++ ended fault_text fault) }
 {
