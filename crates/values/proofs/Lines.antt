@@ -1,7 +1,7 @@
 -- A line is gathered from its end. Assumes nothing.
-use Rattle.std.proofs.Common.{◌≡◌, ℕ, ◌+◌, ◌-◌, ◌/◌, ◌%◌, ◌^◌, ◌<◌, ◌≤◌, List, [], ◌∷◌, ◌++◌, length, take, drop, set, decimal, sym, ap, ◌∙◌, subst, append_assoc, suc-add, zero-add, arith, length-append, length-set}
+use Rattle.std.proofs.Common.{◌≡◌, ℕ, ◌+◌, ◌-◌, ◌/◌, ◌%◌, ◌^◌, ◌<◌, ◌≤◌, List, [], ◌∷◌, ◌++◌, length, take, drop, set, decimal, refl, sym, ap, ◌∙◌, subst, append_assoc, suc-add, zero-add, arith, length-append, length-set}
 use Rattle.std.proofs.lemmas.List.{drop-set, drop-take, length-take-le, set-append_left, take-append-drop, take_at, take-take}
-use Rattle.values.specs.Texts.{text_from}
+use Rattle.values.specs.Texts.{numbered, text_from}
 use Rattle.std.proofs.lemmas.Fmt.{decimal_digit, decimal_step}
 
 -- a byte before those from i on
@@ -40,3 +40,8 @@ pub cut : (was line : List ℕ) (i m n : ℕ) → i ≤ 64 → m ≡ 64 → n �
 cut was line i m n in-it all is =
     let e : i + (64 - i) ≡ 64 = omega arith in
     ap (λ k. take k (was ++ take m (drop i line))) is ∙ take_past was (take m (drop i line)) (64 - i) ∙ ap (λ l. was ++ l) (take-take (64 - i) m (drop i line) (omega arith) ∙ sym (drop-take i (64 - i) line) ∙ ap (λ k. drop i (take k line)) e)
+
+-- what follows a list of numbers may be written before or after
+pub numbered-append : (ns rest end : List ℕ) → numbered ns rest ++ end ≡ numbered ns (rest ++ end)
+numbered-append [] rest end = refl
+numbered-append (n ∷ ns) rest end = ap (λ l. 9 ∷ l) (append_assoc (decimal n) (numbered ns rest) end ∙ ap (λ l. decimal n ++ l) (numbered-append ns rest end))

@@ -1,5 +1,6 @@
 -- The bytes of everything that is written: a letter, then the fields, each after a tab (byte 9). Assumes nothing.
 --     number n rest, lettered l rest               a field after its tab, and what follows
+--     numbered ns rest                             number fields, each after its tab, and what follows
 --     capital l, letter_text l                     a letter field's character, and the bytes that write it
 --     report_text r, slip_text s, fault_text f     a line of the output, without the byte 10 that ends it
 --     header_text h, call_text c                   a line of the input, without the byte 10 that ends it
@@ -25,6 +26,11 @@ use Rattle.values.specs.Codes.{code, number_of}
 -- a tab, a number, and what follows
 abbrev pub number : ℕ → List ℕ → List ℕ
 number n rest = 9 ∷ (decimal n ++ rest)
+
+-- numbers, each after a tab, and what follows
+abbrev pub numbered : List ℕ → List ℕ → List ℕ
+numbered [] rest = rest
+numbered (n ∷ ns) rest = number n (numbered ns rest)
 
 -- the capital of a letter field
 abbrev pub capital : Letter → ℕ

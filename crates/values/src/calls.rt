@@ -3,13 +3,13 @@ use super::terms::Letter;
 use market::board::Quote;
 
 // The first line of a day: which ladder, and whether wide markets are let through (1) or not (0).
-#[derive(Clone, Copy)]
+#[derive(Clone, Copy, PartialEq, Eq, Debug)]
 pub struct Header {
     pub ladder: Letter,
     pub width: u32,
 }
 
-#[derive(Clone, Copy)]
+#[derive(Clone, Copy, PartialEq, Eq, Debug)]
 pub struct OrderFields {
     pub id: u32,
     pub firm: u32,
@@ -22,7 +22,7 @@ pub struct OrderFields {
     pub protection: u32,
 }
 
-#[derive(Clone, Copy)]
+#[derive(Clone, Copy, PartialEq, Eq)]
 pub enum Call {
     Open,
     Away { exchange: u32, quote: Quote },

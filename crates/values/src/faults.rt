@@ -4,7 +4,7 @@ ghost use Rattle.values.specs.Codes.{code, of_line, of_check, of_series, of_moni
 
 use market::packed::BoardFault;
 
-#[derive(Clone, Copy, PartialEq, Eq)]
+#[derive(Clone, Copy, PartialEq, Eq, Debug)]
 pub enum Layer {
     Line,
     Check,
@@ -14,7 +14,7 @@ pub enum Layer {
 }
 
 // What is wrong with a line as text.
-#[derive(Clone, Copy, PartialEq, Eq)]
+#[derive(Clone, Copy, PartialEq, Eq, Debug)]
 pub enum LineFault {
     // Empty, over 80 bytes, of no known kind, a first line that is no header, or a later header.
     NoCall,
@@ -25,7 +25,7 @@ pub enum LineFault {
 }
 
 // What is wrong with a field of a call, by its number in the line.
-#[derive(Clone, Copy, PartialEq, Eq)]
+#[derive(Clone, Copy, PartialEq, Eq, Debug)]
 pub enum CheckFault {
     OutOfRange { field: u32 },
     OffLadder { field: u32 },
@@ -34,7 +34,7 @@ pub enum CheckFault {
 }
 
 // Why the series as it stands cannot carry a call out.
-#[derive(Clone, Copy, PartialEq, Eq)]
+#[derive(Clone, Copy, PartialEq, Eq, Debug)]
 pub enum SeriesFault {
     NotOpen,
     AlreadyOpen,
@@ -50,7 +50,7 @@ pub enum SeriesFault {
 }
 
 // Why the monitor keeps an order from trading.
-#[derive(Clone, Copy, PartialEq, Eq)]
+#[derive(Clone, Copy, PartialEq, Eq, Debug)]
 pub enum MonitorFault {
     WideMarket,
     NoBid,
@@ -59,7 +59,7 @@ pub enum MonitorFault {
 }
 
 // A fault by its cause, which tells the layer that found it.
-#[derive(Clone, Copy, PartialEq, Eq)]
+#[derive(Clone, Copy, PartialEq, Eq, Debug)]
 pub enum Fault {
     Line(LineFault),
     Check(CheckFault),
@@ -69,7 +69,7 @@ pub enum Fault {
 }
 
 // A fault as it is reported.
-#[derive(Clone, Copy, PartialEq, Eq)]
+#[derive(Clone, Copy, PartialEq, Eq, Debug)]
 pub struct Code {
     pub number: u32,
     pub layer: Layer,
@@ -150,6 +150,7 @@ fn monitor_code(fault: MonitorFault) -> Code
     }
 }
 
+// By hand, these five: a derived `From` promises nothing, and clauses above name the fault that a `?` makes.
 impl From<LineFault> for Fault {
     ghost from_gives = { λ f r. r ≡ of_line f };
 

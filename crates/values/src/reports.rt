@@ -1,7 +1,7 @@
 // What a series answers: reports, and slips to away exchanges.
 
 // Why contracts are cancelled.
-#[derive(Clone, Copy, PartialEq, Eq)]
+#[derive(Clone, Copy, PartialEq, Eq, Debug)]
 pub enum Cause {
     // The desk asked for it.
     Asked,
@@ -13,7 +13,7 @@ pub enum Cause {
     Unfilled,
 }
 
-#[derive(Clone, Copy)]
+#[derive(Clone, Copy, PartialEq, Eq, Debug)]
 pub enum Report {
     // An order is accepted.
     New {
@@ -52,7 +52,7 @@ impl Report {
 }
 
 // Contracts sent to an away exchange.
-#[derive(Clone, Copy)]
+#[derive(Clone, Copy, PartialEq, Eq, Debug)]
 pub struct Slip {
     pub number: u32,
     pub arrival: u32,

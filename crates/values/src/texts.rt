@@ -7,13 +7,12 @@ use super::calls::{Call, Header, OrderFields};
 use super::faults::{Code, Fault, Layer};
 use super::reports::{Cause, Report, Slip};
 use super::terms::Letter;
+pub use super::writing::{put_fault, put_line, put_lines, put_reports, put_slips};
 use market::board::Quote;
 use std::fmt;
 
-pub use super::writing::{put_fault, put_line, put_lines, put_reports, put_slips};
-
 impl Letter {
-    // The character of a letter field.
+    // The character of a letter field. A method, as the two below are: `char::from(letter)` would not say which character.
     pub fn capital(self) -> char
         ensures { result ≡ capital self }
     {

@@ -1,10 +1,10 @@
-// Reports, slips and faults as bytes, each on a line of its own.
-// A line is gathered from its end, since the last digit of a number is the first to be known, and then appended.
+// Reports, slips and faults, each on a line of its own, into a string or into bytes.
+// Among bytes a line is gathered from its end, since the last digit of a number is the first to be known, and then appended.
 // It stands before place 64 and has at most 57 bytes: a letter, five numbers of ten digits with a tab before each, and
 // byte 10.
 ghost use Rattle.std.specs.Prelude.{◌≡◌, ℕ, ◌+◌, ◌<◌, ◌≤◌, List, [], ◌∷◌, ◌++◌, Some, OnOk, IfSome, string_bytes, refl};
 ghost use Rattle.std.specs.List.{flat_map};
-ghost use Rattle.values.specs.Texts.{number, report_text, slip_text, fault_text, ended, text_from};
+ghost use Rattle.values.specs.Texts.{number, numbered, report_text, slip_text, fault_text, ended, text_from};
 
 use super::faults::{Code, Fault};
 use super::reports::{Report, Slip};
@@ -40,107 +40,104 @@ fn put_number(line: &mut [u8; 128], end: usize, n: u32) -> usize
     at - 2
 }
 
-// A letter and two numbers, gathered before the byte 10 at the end; where the line begins.
-fn gather_two(line: &mut [u8; 128], letter: u8, first: u32, second: u32) -> usize
-    requires { text_from 63 line.old ≡ 10 ∷ [] }
-    ensures text { text_from result line.new ≡ (letter ∷ number first (number second [])) ++ (10 ∷ []) }
+// A letter and numbers, gathered before the byte 10 at the end; where the line begins.
+fn gather<const N: usize>(line: &mut [u8; 128], letter: u8, numbers: [u32; N]) -> usize
+    requires end { text_from 63 line.old ≡ 10 ∷ [] }
+    requires few { N ≤ 5 }
+    ensures text { text_from result line.new ≡ (letter ∷ numbered numbers.entry []) ++ (10 ∷ []) }
     ensures place { result ≤ 64 }
 {
-    let at = put_number(line, 63, second);
-    let at = put_number(line, at, first);
+    let mut at = 63;
+    let mut left: &[u32] = &numbers;
+    while let [front @ .., last] = left {
+        at = put_number(line, at, *last);
+        left = front;
+    }
     put_byte(line, at, letter)
 }
 
-fn gather_three(line: &mut [u8; 128], letter: u8, first: u32, second: u32, third: u32) -> usize
-    requires { text_from 63 line.old ≡ 10 ∷ [] }
-    ensures text { text_from result line.new ≡ (letter ∷ number first (number second (number third []))) ++ (10 ∷ []) }
-    ensures place { result ≤ 64 }
-{
-    let at = put_number(line, 63, third);
-    let at = put_number(line, at, second);
-    let at = put_number(line, at, first);
-    put_byte(line, at, letter)
+// What is written on a line of its own.
+pub trait Line: fmt::Display + Copy {
+    // Its bytes, without the byte 10 that ends the line.
+    ghost text: { Self → List ℕ };
+
+    // Gathered before the byte 10 at the end; where the line begins.
+    fn gather(self, line: &mut [u8; 128]) -> usize
+        requires { text_from 63 line.old ≡ 10 ∷ [] }
+        ensures text { text_from result line.new ≡ ended text self }
+        ensures place { result ≤ 64 };
+
+    ghost displayed: { (x : Self) → Self.output x ≡ Some (text x) };
 }
 
-fn gather_four(
-    line: &mut [u8; 128],
-    letter: u8,
-    first: u32,
-    second: u32,
-    third: u32,
-    fourth: u32,
-) -> usize
-    requires { text_from 63 line.old ≡ 10 ∷ [] }
-    ensures text { text_from result line.new ≡ (letter ∷ number first (number second (number third (number fourth [])))) ++ (10 ∷ []) }
-    ensures place { result ≤ 64 }
-{
-    let at = put_number(line, 63, fourth);
-    let at = put_number(line, at, third);
-    let at = put_number(line, at, second);
-    let at = put_number(line, at, first);
-    put_byte(line, at, letter)
-}
+impl Line for Report {
+    ghost text = { report_text };
 
-fn gather_report(line: &mut [u8; 128], report: Report) -> usize
-    requires { text_from 63 line.old ≡ 10 ∷ [] }
-    ensures text { text_from result line.new ≡ ended report_text report }
-    ensures place { result ≤ 64 }
-{
-    match report {
-        Report::New { arrival, id } => gather_two(line, b'N', arrival, id),
-        Report::Fill {
-            taker,
-            maker,
-            price,
-            size,
-        } => gather_four(line, b'F', taker, maker, price, size),
-        Report::Booked {
-            arrival,
-            booked,
-            displayed,
-            remaining,
-        } => gather_four(line, b'B', arrival, booked, displayed, remaining),
-        Report::Cancelled {
-            arrival,
-            size,
-            cause,
-        } => gather_three(line, b'C', arrival, size, cause.number()),
-        Report::FilledAway {
-            arrival,
-            slip,
-            size,
-        } => gather_three(line, b'Y', arrival, slip, size),
+    ghost displayed = { λ _. refl };
+
+    fn gather(self, line: &mut [u8; 128]) -> usize {
+        match self {
+            Report::New { arrival, id } => gather(line, b'N', [arrival, id]),
+            Report::Fill {
+                taker,
+                maker,
+                price,
+                size,
+            } => gather(line, b'F', [taker, maker, price, size]),
+            Report::Booked {
+                arrival,
+                booked,
+                displayed,
+                remaining,
+            } => gather(line, b'B', [arrival, booked, displayed, remaining]),
+            Report::Cancelled {
+                arrival,
+                size,
+                cause,
+            } => gather(line, b'C', [arrival, size, cause.number()]),
+            Report::FilledAway {
+                arrival,
+                slip,
+                size,
+            } => gather(line, b'Y', [arrival, slip, size]),
+        }
     }
 }
 
-fn gather_slip(line: &mut [u8; 128], slip: Slip) -> usize
-    requires { text_from 63 line.old ≡ 10 ∷ [] }
-    ensures text { text_from result line.new ≡ ended slip_text slip }
-    ensures place { result ≤ 64 }
-{
-    let at = put_number(line, 63, slip.size);
-    let at = put_number(line, at, slip.price);
-    let at = put_number(line, at, slip.exchange);
-    let at = put_number(line, at, slip.arrival);
-    let at = put_number(line, at, slip.number);
-    put_byte(line, at, b'S')
+impl Line for Slip {
+    ghost text = { slip_text };
+
+    ghost displayed = { λ _. refl };
+
+    fn gather(self, line: &mut [u8; 128]) -> usize {
+        let Slip {
+            number,
+            arrival,
+            exchange,
+            price,
+            size,
+        } = self;
+        gather(line, b'S', [number, arrival, exchange, price, size])
+    }
 }
 
-fn gather_fault(line: &mut [u8; 128], fault: Fault) -> usize
-    requires { text_from 63 line.old ≡ 10 ∷ [] }
-    ensures text { text_from result line.new ≡ ended fault_text fault }
-    ensures place { result ≤ 64 }
-{
-    let Code {
-        number,
-        layer,
-        place,
-    } = fault.code();
-    let at = put_number(line, 63, place);
-    let at = put_byte(line, at, layer.initial());
-    let at = put_byte(line, at, b'\t');
-    let at = put_number(line, at, number);
-    put_byte(line, at, b'E')
+impl Line for Fault {
+    ghost text = { fault_text };
+
+    ghost displayed = { λ _. refl };
+
+    fn gather(self, line: &mut [u8; 128]) -> usize {
+        let Code {
+            number,
+            layer,
+            place,
+        } = self.code();
+        let at = put_number(line, 63, place);
+        let at = put_byte(line, at, layer.initial());
+        let at = put_byte(line, at, b'\t');
+        let at = put_number(line, at, number);
+        put_byte(line, at, b'E')
+    }
 }
 
 // The text that begins at `start`, after what is written already. 64 bytes are copied at once and those after the text
@@ -165,50 +162,6 @@ fn append(out: &mut Vec<u8>, line: &[u8; 128], start: usize) -> Result<(), Alloc
     let done = append_block(&mut all, line, start);
     *out = all;
     done
-}
-
-// What is written on a line of its own.
-pub trait Line: fmt::Display + Copy {
-    // Its bytes, without the byte 10 that ends the line.
-    ghost text: { Self → List ℕ };
-
-    // Gathered before the byte 10 at the end; where the line begins.
-    fn gather(self, line: &mut [u8; 128]) -> usize
-        requires { text_from 63 line.old ≡ 10 ∷ [] }
-        ensures text { text_from result line.new ≡ ended text self }
-        ensures place { result ≤ 64 };
-
-    ghost displayed: { (x : Self) → Self.output x ≡ Some (text x) };
-}
-
-impl Line for Report {
-    ghost text = { report_text };
-
-    ghost displayed = { λ _. refl };
-
-    fn gather(self, line: &mut [u8; 128]) -> usize {
-        gather_report(line, self)
-    }
-}
-
-impl Line for Slip {
-    ghost text = { slip_text };
-
-    ghost displayed = { λ _. refl };
-
-    fn gather(self, line: &mut [u8; 128]) -> usize {
-        gather_slip(line, self)
-    }
-}
-
-impl Line for Fault {
-    ghost text = { fault_text };
-
-    ghost displayed = { λ _. refl };
-
-    fn gather(self, line: &mut [u8; 128]) -> usize {
-        gather_fault(line, self)
-    }
 }
 
 // What lines are written to, each after what is written already.
@@ -246,6 +199,7 @@ pub fn put_lines<S: Sink, L: Line>(out: &mut S, lines: &[L]) -> Result<(), Alloc
     Ok(())
 }
 
+// The names by which the crates above write what a series answers.
 pub fn put_fault<S: Sink>(out: &mut S, fault: Fault) -> Result<(), AllocError>
     ensures { OnOk result (S.Sink.bytes out.new ≡ S.Sink.bytes out.old ++ ended fault_text fault) }
 {

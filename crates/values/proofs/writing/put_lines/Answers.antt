@@ -1,4 +1,4 @@
-use Rattle.std.proofs.Common.{◌+◌, [], ◌∷◌, ◌++◌, take, sym, ap, ◌∙◌, rules}
+use Rattle.std.proofs.Common.{◌≡◌, [], ◌∷◌, ◌++◌, take, sym, ap, ◌∙◌, rules}
 use Rattle.std.specs.List.{flat_map}
 use Rattle.std.proofs.lemmas.List.{take_all, take_more, flat_map_more}
 use Rattle.values.specs.Texts.{ended}
@@ -11,8 +11,9 @@ loop-line-preserved g c =
     let lines = c.args.lines.now in
     let i = c.loop-line.line-index in
     let line = c.line-item.result in
+    let put : g.S.Sink.bytes c.put.new.self ≡ g.S.Sink.bytes c.loop-line.out ++ text line = c.in_ok-put.ensures in
     let one_more = ap (λ l. take i lines ++ l ∷ []) c.line-item.is ∙ sym (take_more lines i line (search rules)) in
-    c.in_ok-put.ensures ∙ ap (λ l. l ++ text line) c.loop-line.invariant ∙ flat_map_more text start (take i lines) line ∙ ap (λ l. start ++ flat_map text l) one_more
+    put ∙ ap (λ l. l ++ text line) c.loop-line.invariant ∙ flat_map_more text start (take i lines) line ∙ ap (λ l. start ++ flat_map text l) one_more
 
 pub returns : goal.returns
 returns g c = c.loop-line.invariant ∙ ap (λ l. g.S.Sink.bytes c.args.out.now ++ flat_map (ended g.L.Line.text) l) (take_all _ c.args.lines.now (search rules))
