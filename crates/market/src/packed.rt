@@ -4,7 +4,7 @@ ghost use Rattle.market.specs.declared.board.Quote.{Quote};
 ghost use Rattle.market.specs.Packing.{word, quote_at, unpacked, length_unpacked, word_bytes, record_bytes, packed, overwritten, told_bytes};
 ghost use Rattle.market.specs.Quotes.{absent, told};
 
-use super::board::{Board, Quote, best_bid_of, best_offer_of};
+use super::board::{Bids, Board, Offers, Quote, best};
 use super::host::whole;
 
 // How many bytes fifteen records take.
@@ -73,11 +73,11 @@ impl<'a> Board for PackedBoard<'a> {
     }
 
     fn best_bid(&self) -> (u32, u64) {
-        best_bid_of(&unpack(&*self.bytes))
+        best::<Bids>(&unpack(&*self.bytes))
     }
 
     fn best_offer(&self) -> (u32, u64) {
-        best_offer_of(&unpack(&*self.bytes))
+        best::<Offers>(&unpack(&*self.bytes))
     }
 }
 
