@@ -171,5 +171,6 @@ fn next_up<L: Ladder>(ladder: &L, at: u32) -> u32
 fn next_down<L: Ladder>(ladder: &L, at: u32) -> u32
     ensures { result ≡ last_below (L.Ladder.rung ladder.now) at }
 {
-    ladder.below(at).unwrap_or(ladder.lowest())
+    let lowest = ladder.lowest();
+    ladder.below(at).unwrap_or(lowest)
 }
