@@ -5,7 +5,7 @@ use Rattle.std.proofs.lemmas.List.Edits.{paste_all, paste-paste}
 use Rattle.std.proofs.lemmas.List.{drop_at, drop-drop}
 use Rattle.market.specs.declared.board.Quote.{Quote}
 use Rattle.market.specs.Quotes.{told}
-use Rattle.market.specs.Packing.{word_bytes, record_bytes, packed, overwritten, told_bytes}
+use Rattle.market.specs.Packing.{word_bytes, record_bytes, packed, overwritten}
 use Rattle.market.proofs.Packs.{here_in}
 
 pub four_sets : (bs : List ℕ) (i a b c d : ℕ) → i + 4 ≤ length bs → set (set (set (set bs i a) (i + 1) b) (i + 2) c) (i + 3) d ≡ overwritten bs i (a ∷ b ∷ c ∷ d ∷ [])
@@ -70,9 +70,7 @@ packed_set (x ∷ xs) zero q l = first_record q x (packed xs)
 packed_set (x ∷ xs) (suc k) q l =
     past (record_bytes x) (packed xs) (record_bytes q) 16 (16 * k) (16 * suc k) (record_length x) (omega arith) ∙ ap (λ r. record_bytes x ++ r) (packed_set xs k q (omega arith))
 
-pub told_exactly : (bs cs : List ℕ) (e : ℕ) (q : Quote) → 1 ≤ e → e ≤ 15 → cs ≡ overwritten bs (16 * (e - 1)) (record_bytes q) → cs ≡ told_bytes bs e q
-told_exactly bs cs e q l m at = at ∙ sym (ap (λ b. cond b (overwritten bs (16 * (e - 1)) (record_bytes q)) bs) (here_in e l m))
-
-pub told_packed : (bs cs : List ℕ) (e : ℕ) (q : Quote) → 1 ≤ e → e ≤ 15 → cs ≡ overwritten bs (16 * (e - 1)) (record_bytes q) → (qs : List Quote) → length qs ≡ 15 → bs ≡ packed qs → cs ≡ packed (told qs e q)
-told_packed bs cs e q l m at qs n was =
-    at ∙ ap (λ w. overwritten w (16 * (e - 1)) (record_bytes q)) was ∙ packed_set qs (e - 1) q (omega arith) ∙ sym (ap (λ b. packed (cond b (set qs (e - 1) q) qs)) (here_in e l m))
+pub told_packed : (bs cs : List ℕ) (e i : ℕ) (q : Quote) → i < 15 → e ≡ i + 1 → cs ≡ overwritten bs (16 * i) (record_bytes q) → (qs : List Quote) → length qs ≡ 15 → bs ≡ packed qs → cs ≡ packed (told qs e q)
+told_packed bs cs e i q l m at qs n was =
+    let k : e - 1 ≡ i = omega arith in
+    at ∙ ap (λ w. overwritten w (16 * i) (record_bytes q)) was ∙ packed_set qs i q (omega arith) ∙ sym (ap (λ b. packed (cond b (set qs (e - 1) q) qs)) (here_in e (omega arith) (omega arith)) ∙ ap (λ j. packed (set qs j q)) k)

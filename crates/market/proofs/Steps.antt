@@ -1,6 +1,15 @@
 -- What `above` and `below` answer is one step of the recursive definitions. Assumes the law of a ladder where it says so.
-use Rattle.std.proofs.Common.{◌≡◌, ℕ, zero, suc, ◌+◌, ◌-◌, ◌<◌, ◌≤◌, Bool, true, false, Some, None, Option, unwrap_or, sym, refl, ap, ◌∙◌, inl, inr, arith}
+use Rattle.std.proofs.Common.{◌≡◌, ℕ, zero, suc, ◌+◌, ◌-◌, ◌<◌, ◌≤◌, Bool, true, false, Some, None, Option, unwrap_or, List, [], ◌∷◌, ◌++◌, length, length-append, sym, refl, ap, ◌∙◌, inl, inr, arith}
 use Rattle.std.proofs.lemmas.Bool.{cond-true, cond-false, cases_eq, cases_lt, both_ways}
+use Rattle.std.proofs.iter.Yields.{nat_range_steps}
+use Rattle.std.proofs.lemmas.Fn.{fold_over}
+use Rattle.std.proofs.lemmas.Iterator.{YieldsList-from_range}
+use Rattle.std.proofs.lemmas.List.FromFn.{length-range_with_len}
+use Rattle.std.specs.Fn.{Called}
+use Rattle.std.specs.Iterator.{Drains}
+use Rattle.std.specs.List.{FoldsTo, range_with_len}
+use Rattle.std.specs.declared.ops.Range.{Range}
+use denote.Param.Members.{Mut}
 use Rattle.market.specs.Rungs.{Lowest, Above, Beneath, first_from, step_up, bottom, last_below}
 
 pub first_found : (R : ℕ → Bool) (f k q : ℕ) → R q ≡ true → k ≤ q → q < k + f → ((j : ℕ) → k ≤ j → j < q → R j ≡ false) → first_from R f k ≡ q
@@ -51,3 +60,13 @@ last_found R (suc k) q hit low gap =
 pub step_below : (R : ℕ → Bool) (p low : ℕ) (o : Option ℕ) → bottom R ≡ low → Beneath R p o → last_below R p ≡ unwrap_or o low
 step_below R p low None at none = last_none R p none ∙ at
 step_below R p low (Some q) at some = last_found R p q some.0 some.1 some.2
+
+-- a fold over 0 to n whose closure takes one step and keeps what it holds takes n steps
+pub walked : {F : Type 0} (g : Mut F (ℕ × (ℕ × Unit {0})) ℕ) (f : F) (step at : ℕ → ℕ) → ((k : ℕ) → at (suc k) ≡ step (at k)) → ((a x b : ℕ) (q : F) → Called g f (a, (x, tt)) b q → (b ≡ step a) × (q ≡ f)) → (s : Range ℕ) (n r : ℕ) → s ≡ record { start = 0; end = n } → (xs : List ℕ) × (q : F) × Drains nat_range_steps s xs × FoldsTo {P = F × ℕ} (λ p x q. Called g p.0 (p.1, (x, tt)) q.1 q.0) (f, at 0) xs (q, r) → r ≡ at n
+walked g f step at next call s n r is ran =
+    let more : (ys : List ℕ) (a x b : ℕ) (q : _) → a ≡ at (length ys) → Called g f (a, (x, tt)) b q → (b ≡ at (length (ys ++ (x ∷ [])))) × (q ≡ f) = λ ys a x b q was k.
+    let longer : length (ys ++ (x ∷ [])) ≡ suc (length ys) = omega (arith, length-append ys (x ∷ [])) in
+    let now = call a x b q k in
+    (now.0 ∙ ap step was ∙ sym (next (length ys)) ∙ ap at (sym longer), now.1) in
+    fold_over nat_range_steps (λ (x : ℕ). x) g (λ (ys : List ℕ) (a : ℕ). a ≡ at (length ys)) f more s (range_with_len 0 n) (at 0) r (YieldsList-from_range 0 n n is (omega arith)).runs refl ran
+    ∙ ap at (length-range_with_len 0 n)

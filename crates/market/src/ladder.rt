@@ -1,7 +1,7 @@
 // Ladders of prices in cents: the interface, and three sets of rungs.
 ghost use Rattle.std.specs.Prelude.{◌≡◌, ℕ, ◌+◌, ◌-◌, ◌*◌, ◌%◌, ◌<◌, ◌≤◌, Bool, true, false};
-ghost use Rattle.market.specs.Rungs.{Lowest, Above, Beneath, cents, cents_then_fives, fives_then_tens, climbed, descended};
-ghost use Rattle.std.proofs.Common.{rules};
+ghost use Rattle.market.specs.Rungs.{Lowest, Above, Beneath, cents, cents_then_fives, fives_then_tens, step_up, climbed, last_below, descended};
+ghost use Rattle.market.specs.Spacings.{IsSpaced, top_rung, no_rung, most_rungs, cents_spaced, cents_then_fives_spaced, fives_then_tens_spaced};
 
 // The highest price there is, a rung of every ladder.
 pub const TOP: u32 = 100_000;
@@ -31,155 +31,146 @@ pub trait Ladder {
     ghost most: { (s : Self) (p : ℕ) → rung s p ≡ true → p ≤ 100000 };
 }
 
-// Every cent.
-#[derive(Clone, Copy)]
-pub struct Cents;
+// A ladder whose rungs are the multiples of one spacing below 300 and of another from 300 on.
+pub trait Spaced {
+    // The spacing below 300.
+    const NEAR: u32;
 
-impl Ladder for Cents {
-    ghost rung = { λ _. cents };
+    // The spacing from 300 on.
+    const FAR: u32;
 
-    ghost top = { Prim.search rules };
+    ghost NEAR: { ℕ };
 
-    ghost none = { Prim.search rules };
+    ghost FAR: { ℕ };
 
-    ghost most = { Prim.search rules };
+    ghost rungs: { ℕ → Bool };
+
+    ghost spaced: { IsSpaced rungs NEAR FAR };
+}
+
+impl<S: Spaced> Ladder for S {
+    ghost rung = { λ _. S.rungs };
+
+    ghost top = { λ _. top_rung S.rungs S.NEAR S.FAR S.spaced };
+
+    ghost none = { λ _. no_rung S.rungs S.NEAR S.FAR S.spaced };
+
+    ghost most = { λ _. most_rungs S.rungs S.NEAR S.FAR S.spaced };
 
     fn is_rung(&self, price: u32) -> bool {
-        0 < price && price <= TOP
+        0 < price
+            && price <= TOP
+            && (if price < 300 {
+                price % S::NEAR == 0
+            } else {
+                price % S::FAR == 0
+            })
     }
 
     fn lowest(&self) -> u32 {
-        1
+        S::NEAR
     }
 
     fn above(&self, price: u32) -> Option<u32> {
-        if price < TOP { Some(price + 1) } else { None }
+        if price >= TOP {
+            None
+        } else if price < 300 {
+            Some(price - price % S::NEAR + S::NEAR)
+        } else {
+            Some(price - price % S::FAR + S::FAR)
+        }
     }
 
     fn below(&self, price: u32) -> Option<u32> {
         if price > TOP {
             Some(TOP)
-        } else if price > 1 {
-            Some(price - 1)
+        } else if price > 300 {
+            Some(price - 1 - (price - 1) % S::FAR)
+        } else if price > S::NEAR {
+            Some(price - 1 - (price - 1) % S::NEAR)
         } else {
             None
         }
     }
+}
+
+// Every cent.
+#[derive(Clone, Copy)]
+pub struct Cents;
+
+impl Spaced for Cents {
+    const NEAR: u32 = 1;
+
+    const FAR: u32 = 1;
+
+    ghost NEAR = { 1 };
+
+    ghost FAR = { 1 };
+
+    ghost rungs = { cents };
+
+    ghost spaced = { cents_spaced };
 }
 
 // Every cent below 300, multiples of 5 from 300.
 #[derive(Clone, Copy)]
 pub struct CentsThenFives;
 
-impl Ladder for CentsThenFives {
-    ghost rung = { λ _. cents_then_fives };
+impl Spaced for CentsThenFives {
+    const NEAR: u32 = 1;
 
-    ghost top = { Prim.search rules };
+    const FAR: u32 = 5;
 
-    ghost none = { Prim.search rules };
+    ghost NEAR = { 1 };
 
-    ghost most = { Prim.search rules };
+    ghost FAR = { 5 };
 
-    fn is_rung(&self, price: u32) -> bool {
-        0 < price && price <= TOP && (price < 300 || price % 5 == 0)
-    }
+    ghost rungs = { cents_then_fives };
 
-    fn lowest(&self) -> u32 {
-        1
-    }
-
-    fn above(&self, price: u32) -> Option<u32> {
-        if price >= TOP {
-            None
-        } else if price < 300 {
-            Some(price + 1)
-        } else {
-            Some(price - price % 5 + 5)
-        }
-    }
-
-    fn below(&self, price: u32) -> Option<u32> {
-        if price > TOP {
-            Some(TOP)
-        } else if price > 300 {
-            Some(price - 1 - (price - 1) % 5)
-        } else if price > 1 {
-            Some(price - 1)
-        } else {
-            None
-        }
-    }
+    ghost spaced = { cents_then_fives_spaced };
 }
 
 // Multiples of 5 below 300, multiples of 10 from 300.
 #[derive(Clone, Copy)]
 pub struct FivesThenTens;
 
-impl Ladder for FivesThenTens {
-    ghost rung = { λ _. fives_then_tens };
+impl Spaced for FivesThenTens {
+    const NEAR: u32 = 5;
 
-    ghost top = { Prim.search rules };
+    const FAR: u32 = 10;
 
-    ghost none = { Prim.search rules };
+    ghost NEAR = { 5 };
 
-    ghost most = { Prim.search rules };
+    ghost FAR = { 10 };
 
-    fn is_rung(&self, price: u32) -> bool {
-        0 < price
-            && price <= TOP
-            && (if price < 300 {
-                price % 5 == 0
-            } else {
-                price % 10 == 0
-            })
-    }
+    ghost rungs = { fives_then_tens };
 
-    fn lowest(&self) -> u32 {
-        5
-    }
-
-    fn above(&self, price: u32) -> Option<u32> {
-        if price >= TOP {
-            None
-        } else if price < 300 {
-            Some(price - price % 5 + 5)
-        } else {
-            Some(price - price % 10 + 10)
-        }
-    }
-
-    fn below(&self, price: u32) -> Option<u32> {
-        if price > TOP {
-            Some(TOP)
-        } else if price > 300 {
-            Some(price - 1 - (price - 1) % 10)
-        } else if price > 5 {
-            Some(price - 1 - (price - 1) % 5)
-        } else {
-            None
-        }
-    }
+    ghost spaced = { fives_then_tens_spaced };
 }
 
 // `n` rungs up, staying at the top once there.
 pub fn up<L: Ladder>(ladder: &L, from: u32, n: u32) -> u32
     ensures { result ≡ climbed (L.Ladder.rung ladder.now) n from }
 {
-    let mut at = from;
-    for _i in 0..n {
-        at = ladder.above(at).unwrap_or(TOP);
-    }
-    at
+    (0..n).fold(from, |at, _| next_up(ladder, at))
 }
 
 // `n` rungs down, staying at the lowest rung once there.
 pub fn down<L: Ladder>(ladder: &L, from: u32, n: u32) -> u32
     ensures { result ≡ descended (L.Ladder.rung ladder.now) n from }
 {
+    (0..n).fold(from, |at, _| next_down(ladder, at))
+}
+
+fn next_up<L: Ladder>(ladder: &L, at: u32) -> u32
+    ensures { result ≡ step_up (L.Ladder.rung ladder.now) at }
+{
+    ladder.above(at).unwrap_or(TOP)
+}
+
+fn next_down<L: Ladder>(ladder: &L, at: u32) -> u32
+    ensures { result ≡ last_below (L.Ladder.rung ladder.now) at }
+{
     let lowest = ladder.lowest();
-    let mut at = from;
-    for _i in 0..n {
-        at = ladder.below(at).unwrap_or(lowest);
-    }
-    at
+    ladder.below(at).unwrap_or(lowest)
 }

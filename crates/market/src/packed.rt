@@ -4,8 +4,9 @@ ghost use Rattle.market.specs.declared.board.Quote.{Quote};
 ghost use Rattle.market.specs.Packing.{word, quote_at, unpacked, length_unpacked, word_bytes, record_bytes, packed, overwritten, told_bytes};
 ghost use Rattle.market.specs.Quotes.{absent, told};
 
-use super::board::{Board, Quote, best_bid_of, best_offer_of};
+use super::board::{Bids, Board, Offers, Quote, best, place};
 use super::host::whole;
+use std::array;
 
 // How many bytes fifteen records take.
 pub const BOARD_BYTES: usize = 240;
@@ -59,37 +60,31 @@ impl<'a> Board for PackedBoard<'a> {
         ensures packed { (qs : List Quote) → length qs ≡ 15 → self.old.bytes.now ≡ packed qs → self.new.bytes.now ≡ packed (told qs exchange quote) }
         ensures lender { self.new.bytes.ghost_name ≡ self.old.bytes.ghost_name }
     {
-        if exchange >= 1 && exchange <= 15 {
-            put_quote(&mut *self.bytes, 16 * (exchange - 1) as usize, quote);
+        if let Some(i) = place(exchange) {
+            put_quote(&mut *self.bytes, 16 * i, quote);
         }
     }
 
     fn quote(&self, exchange: u32) -> Quote {
-        if exchange >= 1 && exchange <= 15 {
-            get_quote(&*self.bytes, 16 * (exchange - 1) as usize)
-        } else {
-            Quote::ABSENT
+        match place(exchange) {
+            Some(i) => get_quote(&*self.bytes, 16 * i),
+            None => Quote::ABSENT,
         }
     }
 
     fn best_bid(&self) -> (u32, u64) {
-        best_bid_of(&unpack(&*self.bytes))
+        best::<Bids>(&unpack(&*self.bytes))
     }
 
     fn best_offer(&self) -> (u32, u64) {
-        best_offer_of(&unpack(&*self.bytes))
+        best::<Offers>(&unpack(&*self.bytes))
     }
 }
 
-fn unpack(bytes: &[u8]) -> [Quote; 15]
-    requires { length bytes.now ≡ 240 }
+fn unpack(bytes: &[u8; 240]) -> [Quote; 15]
     ensures { result ≡ unpacked bytes.now }
 {
-    let mut all = [Quote::ABSENT; 15];
-    for i in 0..15 {
-        all[i] = get_quote(bytes, 16 * i);
-    }
-    all
+    array::from_fn(|i| get_quote(bytes, 16 * i))
 }
 
 fn get_word(bytes: &[u8], at: usize) -> u32
