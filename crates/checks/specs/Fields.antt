@@ -1,5 +1,6 @@
 -- One field judged by itself: its value, or the fault at its number. Assumes nothing.
 --     ladder_by, side_by, origin_by, kind_by, mark_by     what a letter says in that field, as values has it
+--     or_range field r        what a letter was converted to, else row 4 at the field
 --     listed field o          what the letter says, else row 4 at the field
 --     within low high field n n where it is low to high, else row 4 at the field
 --     wide_by n               whether the width mark lets wide markets through
@@ -7,17 +8,23 @@
 --     limit_by kind n         an order's limit: up to 100,000, and 0 exactly for a market order
 --     on_ladder rung field p  a price where it is 0 or a rung, else row 5 at the field
 --     handled kind            a kind where it is limit or market, else row 6
-use Rattle.std.specs.Prelude.{ℕ, Bool, true, false, cond, ◌&&◌, ◌||◌, Some, None, Ok, Err, Option, Result, ◌==◌, nat_le}
+use Rattle.std.specs.Prelude.{ℕ, Bool, true, false, cond, ◌&&◌, ◌||◌, Ok, Err, Option, Result, ◌==◌, nat_le}
 use Rattle.values.specs.declared.terms.Kind.{Kind}
 use Rattle.values.specs.declared.terms.Kind.TheVariants.{Limit, Market, Immediate, AllOrNone}
+use Rattle.std.specs.Option.{ok_or}
+use Rattle.values.specs.declared.terms.NotListed.{NotListed}
 pub use Rattle.values.specs.Terms.{ladder_by, side_by, origin_by, kind_by, mark_by}
 use Rattle.values.specs.declared.faults.CheckFault.{CheckFault}
 use Rattle.values.specs.declared.faults.CheckFault.TheVariants.{OutOfRange, OffLadder, KindNotHandled}
 
--- what the letter says where it is listed, else row 4 at the field
+-- what a letter was converted to, else row 4 at the field
+abbrev pub or_range : {A : Type 0} → ℕ → Result A NotListed → Result A CheckFault
+or_range field (Ok x) = Ok x
+or_range field (Err e) = Err (OutOfRange field)
+
+-- the same of what the letter says, if it is listed
 abbrev pub listed : {A : Type 0} → ℕ → Option A → Result A CheckFault
-listed field (Some x) = Ok x
-listed field None = Err (OutOfRange field)
+listed field o = or_range field (ok_or o (record {}))
 
 -- n where it is low to high, else row 4 at the field
 abbrev pub within : ℕ → ℕ → ℕ → ℕ → Result ℕ CheckFault
