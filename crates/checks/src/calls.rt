@@ -5,7 +5,7 @@ ghost use Rattle.checks.specs.Law.{HeaderJudged, CallJudged};
 
 use super::checked::{CheckedCall, CheckedOrder, Settings};
 use super::fields::{handled, limit_by, on_ladder, size_beside, wide_by, within};
-use super::letters::{kind_by, ladder_by, mark_by, origin_by, side_by};
+use super::letters::listed;
 use market::board::Quote;
 use market::ladder::Ladder;
 use values::calls::{Call, Header, OrderFields};
@@ -17,13 +17,7 @@ pub fn check_header(header: Header) -> Result<Settings, CheckFault>
     ensures value { result ≡ checked_header header }
     ensures leftmost { HeaderJudged header result }
 {
-    settings_of(header)
-}
-
-fn settings_of(header: Header) -> Result<Settings, CheckFault>
-    ensures { result ≡ checked_header header }
-{
-    let ladder = ladder_by(header.ladder)?;
+    let ladder = listed(2, header.ladder)?;
     let wide = wide_by(header.width)?;
     Ok(Settings { ladder, wide })
 }
@@ -50,10 +44,10 @@ pub fn check_order<L: Ladder>(ladder: &L, order: OrderFields) -> Result<CheckedO
 {
     let id = within(1, 999_999, 2, order.id)?;
     let firm = within(1, 9_999, 3, order.firm)?;
-    let side = side_by(order.side)?;
-    let origin = origin_by(order.origin)?;
-    let kind = kind_by(order.kind)?;
-    let mark = mark_by(order.mark)?;
+    let side = listed(4, order.side)?;
+    let origin = listed(5, order.origin)?;
+    let kind = listed(6, order.kind)?;
+    let mark = listed(7, order.mark)?;
     let limit = limit_by(kind, order.limit)?;
     let size = within(1, 9_999, 9, order.size)?;
     let protection = within(0, 20, 10, order.protection)?;
@@ -92,12 +86,6 @@ pub fn check_call<L: Ladder>(ladder: &L, call: Call) -> Result<CheckedCall, Chec
     ensures value { result ≡ checked_call (L.Ladder.rung ladder.now) call }
     ensures leftmost { CallJudged (L.Ladder.rung ladder.now) call result }
 {
-    by_kind(ladder, call)
-}
-
-fn by_kind<L: Ladder>(ladder: &L, call: Call) -> Result<CheckedCall, CheckFault>
-    ensures { result ≡ checked_call (L.Ladder.rung ladder.now) call }
-{
     match call {
         Call::Open => Ok(CheckedCall::Open),
         Call::Away { exchange, quote } => check_away(ladder, exchange, quote),
@@ -115,9 +103,6 @@ impl CheckedOrder {
     pub fn routable(&self) -> bool
         ensures { result ≡ may_be_routed self.now }
     {
-        match (self.origin, self.mark) {
-            (Origin::Customer, Mark::Route) => true,
-            _ => false,
-        }
+        self.origin == Origin::Customer && self.mark == Mark::Route
     }
 }

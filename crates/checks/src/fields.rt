@@ -9,13 +9,14 @@ use values::terms::Kind;
 pub(crate) fn within(low: u32, high: u32, field: u32, n: u32) -> Result<u32, CheckFault>
     ensures { result ≡ judged_within low high field n }
 {
-    if low <= n && n <= high {
+    if (low..=high).contains(&n) {
         Ok(n)
     } else {
         Err(CheckFault::OutOfRange { field })
     }
 }
 
+// A match, not a conversion: no number converts to bool in std, and a type for one field would say no more.
 pub(crate) fn wide_by(width: u32) -> Result<bool, CheckFault>
     ensures { result ≡ wide_by width }
 {

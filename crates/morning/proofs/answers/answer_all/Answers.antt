@@ -20,12 +20,12 @@ loop-line-preserved c =
     let i = c.loop-line.invariant in
     let e = c.in_ok-answer.ensures in (
       e.one ∙ ap (λ q. after q (taken (rungs_of c.args.ladder.now) c.in-Some.line.now)) i.0 ∙ sym e.other,
-      sofar_more _ _ _ _ _ _ _ _ e.value.0 _ _ c.in-Some.ensures.handed e.value.2 e.value.1 e.one i.1,
+      sofar_more _ _ _ _ _ _ _ _ e.value.0 _ _ c.in-Some.ensures.steps e.value.2 e.value.1 e.one i.1,
     )
 
 pub returns : goal.returns
 returns c =
     let i = c.loop-line.invariant in
     record {
-      value = IfOk-weaker c.writeln.result _ _ (λ _ b. over_all _ _ _ _ _ _ _ c.in-Ok.ensures.0 (sofar_end _ _ _ _ _ _ c.in_default.ensures.handed.0 i.1) (ap agreement (c.agree-same.ensures.same i.0)) b) c.writeln.ensures.bytes;
+      value = IfOk-weaker c.writeln.result _ _ (λ _ b. over_all _ _ _ _ _ _ _ c.in-Ok.ensures.0 (sofar_end _ _ _ _ _ _ c.in_default.ensures.steps.0 i.1) (ap agreement (c.agree-same.ensures.same i.0)) b) c.writeln.ensures.bytes;
     }
