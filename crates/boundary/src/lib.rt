@@ -3,7 +3,7 @@
 //! Knows numbers and byte slices only, and of the model the day alone.
 #![tactic(auto)]
 
-ghost use Rattle.std.specs.Prelude.{◌≡◌, ℕ, ◌<◌, ◌≤◌, List, ◌++◌, length, IfOk, string_bytes};
+ghost use Rattle.std.specs.Prelude.{◌≡◌, ℕ, ◌<◌, ◌≤◌, List, ◌++◌, length, IfOk};
 ghost use Rattle.day.specs.Days.{Writes};
 ghost use Rattle.boundary.specs.declared.Refusal.TheVariants.{OutOfMemory};
 ghost use Rattle.boundary.specs.Handing.{Hands, Placed, number_of};
@@ -50,10 +50,10 @@ fn number(handed: Result<(), Refusal>) -> u32
 }
 
 // The day's answer, in memory of its own.
-fn answered(heap: Global, input: &[u8]) -> Result<String, AllocError>
-    ensures { IfOk result (λ s. Writes input.now (string_bytes s)) }
+fn answered(heap: Global, input: &[u8]) -> Result<Vec<u8>, AllocError>
+    ensures { IfOk result (λ v. Writes input.now v.items) }
 {
-    let mut out = String::new(heap);
+    let mut out = Vec::new(heap);
     put_day(&mut out, input)?;
     Ok(out)
 }
@@ -82,7 +82,7 @@ fn hand_over(
         return Err(Refusal::InputTooLong);
     }
     let answer = answered(heap, input)?;
-    let bytes = answer.as_bytes();
+    let bytes = answer.as_slice();
     *written = bytes.len();
     place(bytes, buffer)
 }

@@ -18,8 +18,8 @@ fn main(rt: HostRuntime) -> anyhow::Result<()> {
     let Some(input) = asked_input(&rt, "runseries", HELP, INPUT_LIMIT as u64 + 1)? else {
         return Ok(());
     };
-    let mut out = String::new(rt.alloc());
+    let mut out = Vec::new(rt.alloc());
     put_day(&mut out, input.as_slice())?;
-    rt.stdout().write_all(out.as_bytes())?;
+    rt.stdout().write_all(out.as_slice())?;
     Ok(())
 }
