@@ -3,3 +3,4 @@ pub mod Mapped
 pub mod Picks
 pub mod Counts
 pub mod Seats
+pub mod Firsts

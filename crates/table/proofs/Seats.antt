@@ -1,12 +1,16 @@
 -- One place more of a search through the slips. Assumes nothing.
-use Rattle.std.proofs.Common.{◌≡◌, ℕ, zero, suc, ◌+◌, ◌<◌, ◌≤◌, Bool, true, false, cond, ◌≢◌, List, length, get_or, take, drop, set, replicate, Some, None, Option, sym, refl, ap, ◌∙◌, ⊎_elim, add-one, arith, get_or-set_other, get_or-set_same}
-use Rattle.std.proofs.lemmas.List.{take_all, drop_more, drop_all, get_or-replicate, get_or_past, length-replicate}
+use Rattle.std.proofs.Common.{◌≡◌, ℕ, zero, suc, ◌+◌, ◌<◌, ◌≤◌, Bool, true, false, cond, ◌||◌, ◌≢◌, List, length, get_or, take, drop, set, replicate, Some, None, Option, sym, refl, ap, ◌∙◌, ⊎_elim, add-one, arith, get_or-set_other, get_or-set_same}
+use Rattle.std.proofs.lemmas.List.{take_all, get_or-take, length-take-le, drop_more, drop_all, get_or-replicate, get_or_past, length-replicate}
 use Rattle.std.proofs.lemmas.Bool.{cases_lt, cases_eq}
+use Rattle.std.proofs.lemmas.List.Folds.{list_any_more}
+use Rattle.std.proofs.lemmas.List.Quantifiers.{position-Some}
+use Rattle.std.specs.List.{position, list_any}
 use Rattle.values.specs.declared.reports.Slip.{Slip}
 use Rattle.rules.specs.declared.Sent.{Sent}
-use Rattle.rules.specs.Book.{branch}
+use Rattle.rules.specs.Book.{branch, found}
 use Rattle.rules.specs.Slips.{no_sent, sent_at, out, seat, vacant, vacancies, file, filed}
 use Rattle.table.specs.Places.{NoneOutFrom}
+use Rattle.table.proofs.Firsts.{position-None}
 
 module _ (c : Sent → Bool) (b : List Sent) where
   pub seat_none : seat c b 0 ≡ None
@@ -29,6 +33,33 @@ module _ (c : Sent → Bool) (b : List Sent) where
       let same : n ≡ k = omega arith in
       rw (same, ← add-one) (rw (more k, e, f) refl))
       (cases_lt k n)
+
+  pub seat_before : (k : ℕ) → ((j : ℕ) → j < k → c (sent_at b j) ≡ false) → seat c b k ≡ None
+  seat_before zero f = seat_none
+  seat_before (suc k) f = rw (← add-one) (seat_passed k (seat_before k (λ j l. f j (omega arith))) (f k (omega arith)))
+
+  -- the library's search of the first n places
+  pub seat_position : (n : ℕ) → n ≤ length b → position c (take n b) ≡ seat c b n
+  seat_position n h = go (position c (take n b)) refl
+    where
+      long : length (take n b) ≡ n
+      long = length-take-le n b h
+
+      go : (r : Option ℕ) → position c (take n b) ≡ r → r ≡ seat c b n
+      go None e = sym (seat_before n (λ j l. ap c (sym (get_or-take n b j no_sent l)) ∙ position-None c (take n b) j no_sent e (omega (arith, long, l))))
+      go (Some i) e =
+          let f = position-Some c (take n b) i no_sent e in
+          let l : i < n = omega (arith, f.0, long) in
+          sym (seat_found i n (seat_before i (λ j m. ap c (sym (get_or-take n b j no_sent (omega (arith, m, l)))) ∙ f.2 j m)) (ap c (sym (get_or-take n b i no_sent l)) ∙ f.1) l)
+
+  pub seat_any : (n : ℕ) → n ≤ length b → list_any c (take n b) ≡ found (seat c b n)
+  seat_any zero h = ap found (sym seat_none)
+  seat_any (suc n) h = rw (← add-one) (list_any_more c b n no_sent (omega arith) ∙ ap (λ x. x || c (sent_at b n)) (seat_any n (omega arith)) ∙ there (seat c b n) (c (sent_at b n)) ∙ ap found (sym (more n)))
+    where
+      there : (r : Option ℕ) (x : Bool) → (found r || x) ≡ found (branch r (cond x (Some n) None) (λ i. Some i))
+      there None true = refl
+      there None false = refl
+      there (Some i) x = refl
 
 -- a search for slips that are out need not go on where none is out
 module _ (c : Sent → Bool) (b : List Sent) (only : (s : Sent) → out s ≡ false → c s ≡ false) where
