@@ -1,6 +1,7 @@
 -- What the library's chains give over the first places of a list. Assumes nothing.
-use Rattle.std.proofs.Common.{◌≡◌, ℕ, zero, suc, ◌+◌, ◌<◌, ◌≤◌, Bool, true, false, cond, not, ltb, List, length, get_or, take, Some, None, refl, ap, ◌∙◌, add-one, arith}
-use Rattle.std.proofs.lemmas.Bool.{ltb-false}
+use Rattle.std.proofs.Common.{◌≡◌, ℕ, zero, suc, ◌+◌, ◌<◌, ◌≤◌, Bool, true, false, cond, not, ltb, List, length, get_or, take, replicate, Some, None, ⊎_elim, refl, ap, ◌∙◌, add-one, arith}
+use Rattle.std.proofs.lemmas.Bool.{ltb-false, cases_lt}
+use Rattle.std.proofs.lemmas.List.{get_or-replicate, get_or_past, length-replicate}
 use Rattle.std.proofs.lemmas.List.Sums.{prefix_len_passes, fold_more}
 use Rattle.std.specs.List.{position, position_or_len, fold}
 
@@ -25,3 +26,11 @@ folded f a xs d g z s (suc n) h =
     let e = fold_more f a xs n d (omega arith) in
     let i = folded f a xs d g z s n (omega arith) in
     rw (← add-one) (e ∙ ap (λ b. f b (get_or xs n d)) i ∙ (let t = s n in cc))
+
+-- a list of one value holds it at every place, and past its end
+pub replicated : {X : Type 0} (x y : X) (n k : ℕ) → x ≡ y → get_or (replicate n x) k y ≡ y
+replicated x y n k e =
+    ⊎_elim
+    (λ (l : k < n). get_or-replicate n k x y l ∙ e)
+    (λ (l : n ≤ k). get_or_past (replicate n x) k y (rw length-replicate l))
+    (cases_lt k n)

@@ -1,4 +1,3 @@
-pub mod Keeps
 pub mod Mapped
 pub mod Picks
 pub mod Counts

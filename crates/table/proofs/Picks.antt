@@ -1,6 +1,6 @@
 -- One place more of a search through the table. Assumes nothing.
 use Rattle.std.proofs.Common.{◌≡◌, ℕ, zero, suc, ◌+◌, ◌<◌, ◌≤◌, Bool, true, false, cond, ◌≢◌, List, length, take, set, Some, None, Option, sym, refl, ap, ◌∙◌, ⊎_elim, add-one, arith, get_or-set_other}
-use Rattle.std.proofs.lemmas.Bool.{cases_lt, and_parts, and_left, and_right}
+use Rattle.std.proofs.lemmas.Bool.{cases_lt, and_left, and_right}
 use Rattle.std.proofs.lemmas.List.{get_or-take, length-take-le}
 use Rattle.std.proofs.lemmas.List.Quantifiers.{position-Some}
 use Rattle.std.specs.List.{position, fold}
@@ -81,10 +81,6 @@ module _ (c : Order → Bool) (b : List Order) where
           let f = position-Some c (take n b) i free e in
           let l : i < n = omega (arith, f.0, long) in
           sym (first_found i n (first_before i (λ j m. ap c (sym (get_or-take n b j free (omega (arith, m, l)))) ∙ f.2 j m)) (ap c (sym (get_or-take n b i free l)) ∙ f.1) l)
-
-pub ahead_takes : (c : Order → Bool) (lt : Order → Order → Bool) (b : List Order) (k : ℕ) (o : Option ℕ) → ahead c lt b k o ≡ true → c (at b k) ≡ true
-ahead_takes c lt b k None h = h
-ahead_takes c lt b k (Some i) h = (and_parts _ _ h).0
 
 -- an order that none goes before stays the one that is held
 module _ (c : Order → Bool) (lt : Order → Order → Bool) (b : List Order) (k : ℕ) (last : (y : Order) → c y ≡ true → lt y (at b k) ≡ false) where

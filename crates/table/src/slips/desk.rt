@@ -104,6 +104,7 @@ impl SlipsOut {
     }
 
     // A slip of the order with this id goes out; where 64 are out already it is not filed.
+    #[tactic(auto, unfolding(rules::specs::Slips::file))]
     pub fn file(&mut self, id: u32, slip: Slip)
         ensures { slips_in self.new ≡ file id slip (slips_in self.old) }
     {
