@@ -94,7 +94,8 @@ impl Orders {
             bid: 0,
             offer: u32::MAX,
         };
-        // By its index: of a field that an invariant binds one place can be lent, but no part to go over by `iter_mut`.
+        // By its index: the check lends no part of a field under an invariant to `iter_mut`, and a function over the whole
+        // array would need this contract once more.
         for i in 0..self.extent {
             let order = clamp(&mut self.places[i], away);
             reach = widened(&order, reach);
