@@ -12,7 +12,7 @@ use day::put_day;
 use lines::records::INPUT_LIMIT;
 use std::alloc::{AllocError, Global};
 
-// What the number that comes back says.
+// What the number that comes back says; the C interface has numbers and no enums of ours.
 pub const DONE: u32 = 0;
 
 pub const INPUT_TOO_LONG: u32 = 1;

@@ -7,7 +7,7 @@ ghost use Rattle.lines.specs.Handing.{word_in, bytes_in, left_of, room, Pulled, 
 use super::digits::numeral;
 use super::parts::split_at_first;
 
-// What a field says, with its bytes.
+// What a field says, with its bytes. No Result: what is unreadable keeps its bytes too.
 #[derive(Clone, Copy)]
 pub enum Field<'a> {
     Number(u32, &'a [u8]),

@@ -11,7 +11,8 @@ use std::alloc::AllocError;
 use values::calls::{Call, Header};
 use values::faults::{Fault, LineFault};
 
-// Where the table stands: before the first line of an input, behind a header, or behind a refused first line.
+// Where the table stands: before the first line of an input, behind a header, or behind a refused first line. No Option: it is
+// one of three.
 #[derive(Clone, Copy)]
 pub enum Stage {
     First,
@@ -19,6 +20,7 @@ pub enum Stage {
     Ended,
 }
 
+// What a line is answered with. No Result: a refusal is written like the rest, and a mark and nothing are answers too.
 #[derive(Clone, Copy)]
 pub enum Answer {
     // A line that is only '#' begins a new input.

@@ -26,6 +26,8 @@ impl AnyLadder {
     }
 }
 
+// Each method asks the ladder that it is: four matches, since Rattle has no trait of a value chosen at run time without `dyn`,
+// and a `dyn` ladder would need a place to stand.
 impl Ladder for AnyLadder {
     ghost rung = { rungs_of };
 
