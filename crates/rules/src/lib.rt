@@ -8,7 +8,8 @@ ghost use Rattle.rules.specs.Day.{OneDay};
 use values::reports::Slip;
 use values::terms::{Kind, Side};
 
-// What an order was entered with. A limit or a protection limit of 0 bounds nothing.
+// What an order was entered with. A limit or a protection limit of 0 bounds nothing; 0 and no Option, as for every price here:
+// the lines and the reports write 0, and the rules compare prices as numbers.
 #[derive(Clone, Copy)]
 pub struct Terms {
     pub id: u32,
