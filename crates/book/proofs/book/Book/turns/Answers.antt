@@ -17,7 +17,7 @@ pub returns-in-None : goal.returns-in-None
 returns-in-None c R on =
     let inv = c.loop-had.invariant.3 R on in
     let b = orders_of c.loop-had.self in
-    let end = ends _ R c.args.before.now _ _ b inv.0 _ (λ j l. idle_turn R c.args.away on c.loop-had.reach c.args.before.now b c.loop-had.invariant.2 j (later_parts _ (at b j) l).0 (c.in-None.ensures.next j l)) inv.2 in
+    let end = ends _ R c.args.before.now _ _ b inv.0 _ (λ j l. idle_turn R (record { away = c.args.away; reach = c.loop-had.reach }) on c.args.before.now b c.loop-had.invariant.2 j (later_parts _ (at b j) l).0 (c.in-None.ensures.next j l)) inv.2 in
     record { book = end.0; reported = rw end.1 at inv.1 }
 
 pub turn-requires : goal.turn-requires
@@ -38,7 +38,7 @@ loop-had-preserved c =
           let inv = c.loop-had.invariant.3 R on in (
             _,
             grown_more _ _ _ _ _ inv.1 (its.turned R on).reported,
-            goes_on _ R c.args.before.now _ c.loop-had.last due.0 b _ inv.0 c.loop-had.had c.in-Some.i _ due.1 (λ j l up. idle_turn R c.args.away on c.loop-had.reach c.args.before.now b c.loop-had.invariant.2 j (later_parts _ (at b j) l).0 (due.2 j l up)) due.3 (search rules) (its.turned R on).book inv.2,
+            goes_on _ R c.args.before.now _ c.loop-had.last due.0 b _ inv.0 c.loop-had.had c.in-Some.i _ due.1 (λ j l up. idle_turn R (record { away = c.args.away; reach = c.loop-had.reach }) on c.args.before.now b c.loop-had.invariant.2 j (later_parts _ (at b j) l).0 (due.2 j l up)) due.3 (search rules) (its.turned R on).book inv.2,
           ),
     )
 
