@@ -7,7 +7,7 @@ use rules::{Bests, Terms};
 use values::faults::MonitorFault;
 use values::terms::{Kind, Side};
 
-// An order as it came in, with its protection limit.
+// An order as it came in, with its protection limit. Not `Terms`, which can be copied: an order goes to the monitor once.
 #[derive(Drop)]
 pub struct Entered {
     pub id: u32,

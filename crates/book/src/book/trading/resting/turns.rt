@@ -1,5 +1,5 @@
 // Turns: an order that rests trades again, and comes to rest again.
-ghost use Rattle.std.specs.Prelude.{◌≡◌, ℕ, ◌+◌, ◌<◌, ◌≤◌, Bool, not, ◌&&◌, length, set, slice_set};
+ghost use Rattle.std.specs.Prelude.{◌≡◌, ℕ, ◌+◌, ◌<◌, ◌≤◌, Bool, true, not, ◌&&◌, count_by, length, set, slice_set};
 ghost use Rattle.rules.specs.Book.{free, at, Live, taken};
 ghost use Rattle.rules.specs.Trading.{trade};
 ghost use Rattle.rules.specs.Routing.{nowhere};
@@ -24,6 +24,8 @@ use values::reports::Report;
 use values::terms::Side;
 
 // What a turn looks at: the away market, and the most aggressive booked prices here.
+// That no booked price is past the reach is a clause, not a ghost field: it speaks of the book as well, and a turn breaks it
+// until the reach is widened.
 #[derive(Clone, Copy)]
 struct Market {
     away: Away,
@@ -131,6 +133,7 @@ impl Book {
         ensures turned { (R : ℕ → Bool) → On R market.away → Came (turned (turn market.away.best R nowhere i before.now (at (orders_of self.old) i) (slice_set (orders_of self.old) i free))) (orders_of self.new) reports.old reports.new }
         ensures spent { used reports.new + taken (orders_of self.new) ≤ used reports.old + taken (orders_of self.old) + 1 }
         ensures room { capacity reports.new ≡ capacity reports.old }
+        ensures fewer { (a : ℕ) → later a (at (orders_of self.old) i) ≡ true → count_by (later (at (orders_of self.old) i).arrival) (orders_of self.new) < count_by (later a) (orders_of self.old) }
         ensures reach { Bounds (widened (at (orders_of self.new) i) market.reach) (orders_of self.new) }
     {
         let taker = self.orders.order(i);
@@ -151,16 +154,10 @@ impl Book {
         ensures { (R : ℕ → Bool) → On R away → Came (turns (length (orders_of self.old)) away.best R 0 before.now (orders_of self.old)) (orders_of self.new) reports.old reports.new }
     {
         let mut last = 0;
-        for had in 0..64u32 {
-            let market = Market { away, reach };
-            match self.next_due(last, market, before) {
-                None => return,
-                Some(i) => {
-                    last = self.orders.order(i).arrival;
-                    self.turn(market, i, &before[i], reports);
-                    reach = widened(&self.orders.order(i), reach);
-                }
-            }
+        while let Some(i) = self.next_due(last, Market { away, reach }, before) {
+            last = self.orders.order(i).arrival;
+            self.turn(Market { away, reach }, i, &before[i], reports);
+            reach = widened(&self.orders.order(i), reach);
         }
     }
 
