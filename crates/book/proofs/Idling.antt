@@ -1,7 +1,7 @@
 -- An idle order's turn changes nothing. Assumes nothing.
---     Seen i d            of the first i places: those that arrived after last and before d are idle
+--     Seen i d            of the first i places: those that arrived after last and before d are idle; or all, where there is no d
 --     idle_turn           the turn of an idle order leaves the book as it is, and is not reported
-use Rattle.std.proofs.Common.{◌≡◌, ℕ, zero, suc, ◌+◌, ◌-◌, ◌<◌, ◌≤◌, Bool, true, false, not, ◌&&◌, eqb, ltb, leb, ◌⊎◌, List, [], ◌∷◌, length, set, Some, None, Option, sym, refl, ap, ◌∙◌, subst, ap₂, inl, inr, add-one, arith}
+use Rattle.std.proofs.Common.{◌≡◌, ℕ, zero, suc, ◌+◌, ◌-◌, ◌<◌, Bool, true, false, not, ◌&&◌, eqb, ltb, leb, ◌⊎◌, List, [], ◌∷◌, ◌++◌, length, set, Some, None, Option, sym, refl, ap, ◌∙◌, subst, ap₂, inl, inr, add-one, arith, length-append}
 use Rattle.std.proofs.lemmas.List.{set-set, set-get_or}
 use Rattle.std.proofs.lemmas.Bool.{cases_eq, cases_lt, and_parts, and_cases, not-false, both_ways, cond_both, cond-true, eqb-true, ltb-true, lt-ltb, lt-leb, ne_eqb, or_from, and_left, and_right}
 use Rattle.values.specs.declared.terms.Side.{Side}
@@ -23,64 +23,83 @@ use Rattle.trading_laws.proofs.Telling.{later_parts, later_from, Next}
 use Rattle.trading_laws.proofs.Skipping.{next_is, Idle}
 use Rattle.table.specs.declared.sides.Away.{Away}
 use Rattle.table.specs.Away.{On}
+use Rattle.table.specs.Places.{FreeFrom}
 use Rattle.table.specs.Reach.{stretched, widened, reach}
 use Rattle.table.proofs.Picks.{reach_more}
 use Rattle.book.specs.Rests.{rest_on, booked_at, settle_on}
-use Rattle.book.specs.Idle.{Nearer, Bounds, are_of, stays_as, idle_on, idle_in, Due, NextDue}
+use Rattle.book.specs.declared.book.trading.resting.turns.Market.{Market}
+use Rattle.book.specs.Idle.{Nearer, Bounds, are_of, stays_as, idle_on, idle_in, sooner, Due, NextDue}
 use Rattle.book.proofs.Turning.{settle_is, kept}
 
 -- ---- the search for the first that is due
-module _ (a : Away) (r : Bests) (last : ℕ) (old b : List Order) where
-  abbrev pub Seen : ℕ → ℕ → Type 0
-  Seen i d = (0 < d) × ((k : ℕ) → k < i → later last (at b k) ≡ true → (at b k).arrival < d → idle_in a r old b k ≡ true)
+module _ (m : Market) (last : ℕ) (old b : List Order) where
+  -- of the places that are in P, those that arrived after last and before d are idle
+  abbrev pub Before : (ℕ → Type 0) → Option ℕ → Type 0
+  Before P None = (k : ℕ) → P k → later last (at b k) ≡ true → idle_in m old b k ≡ true
+  Before P (Some d) = (last < d) × ((k : ℕ) → P k → later last (at b k) ≡ true → (at b k).arrival < d → idle_in m old b k ≡ true)
 
-  abbrev pub due_at : ℕ → ℕ → Bool
-  due_at d i = ltb (at b i).arrival d && (later last (at b i) && not (idle_in a r old b i))
+  abbrev pub Seen : ℕ → Option ℕ → Type 0
+  Seen i d = Before (λ k. k < i) d
+
+  abbrev pub due_at : Option ℕ → ℕ → Bool
+  due_at d i = sooner (at b i).arrival d && (later last (at b i) && not (idle_in m old b i))
 
   -- the test, as it is made
-  pub due_is : (d i : ℕ) (x : Bool) (o : Order) → x ≡ (ltb o.arrival d && (later last o && not (idle_on a r (at old i) o))) → o ≡ at b i → due_at d i ≡ x
-  due_is d i x o h g = sym (h ∙ ap (λ o'. ltb o'.arrival d && (later last o' && not (idle_on a r (at old i) o'))) g)
+  pub due_is : (d : Option ℕ) (i : ℕ) (x : Bool) (before o : Order) → x ≡ (sooner o.arrival d && (later last o && not (idle_on m before o))) → before ≡ at old i → o ≡ at b i → due_at d i ≡ x
+  due_is d i x before o h f g = rw (f, g) at (sym h)
 
-  idle_or_due : (d i : ℕ) → due_at d i ≡ false → later last (at b i) ≡ true → (at b i).arrival < d → idle_in a r old b i ≡ true
-  idle_or_due d i h l m = elim (and_cases (ltb (at b i).arrival d) _ h) [
-    | inl y ↦ absurd (both_ways _ y (lt-ltb (at b i).arrival d m))
-    | inr z ↦ elim (and_cases (later last (at b i)) (not (idle_in a r old b i)) z) [ inl y ↦ absurd (both_ways _ y l) | inr y ↦ not-false _ y ]
-  ]
+  idle_or_later : (i : ℕ) → (later last (at b i) && not (idle_in m old b i)) ≡ false → later last (at b i) ≡ true → idle_in m old b i ≡ true
+  idle_or_later i h l = elim (and_cases (later last (at b i)) (not (idle_in m old b i)) h) [ inl y ↦ absurd (both_ways _ y l) | inr y ↦ not-false _ y ]
 
-  pub seen_idle : (i d : ℕ) → due_at d i ≡ false → Seen i d → Seen (i + 1) d
-  seen_idle i d h s = (
+  pub seen_idle : (i : ℕ) (d : Option ℕ) → due_at d i ≡ false → Seen i d → Seen (i + 1) d
+  seen_idle i None h s =
+      λ k n l. elim (cases_eq k i) [
+        | inl y ↦ subst (λ j. later last (at b j) ≡ true → idle_in m old b j ≡ true) (sym y) (idle_or_later i h) l
+        | inr y ↦ s k (omega arith) l
+      ]
+  seen_idle i (Some d) h s = (
     s.0,
-    λ k n. elim (cases_eq k i) [
-      | inl y ↦ subst (λ j. later last (at b j) ≡ true → (at b j).arrival < d → idle_in a r old b j ≡ true) (sym y) (idle_or_due d i h)
-      | inr y ↦ s.1 k (omega arith)
+    λ k n l near. elim (cases_eq k i) [
+      | inl y ↦ subst (λ j. later last (at b j) ≡ true → (at b j).arrival < d → idle_in m old b j ≡ true) (sym y) (own d h) l near
+      | inr y ↦ s.1 k (omega arith) l near
     ],
   )
+    where
+      own : (d : ℕ) → due_at (Some d) i ≡ false → later last (at b i) ≡ true → (at b i).arrival < d → idle_in m old b i ≡ true
+      own d h l near = elim (and_cases (ltb (at b i).arrival d) _ h) [ inl y ↦ absurd (both_ways _ y (lt-ltb (at b i).arrival d near)) | inr z ↦ idle_or_later i z l ]
 
-  pub seen_due : (i d : ℕ) → due_at d i ≡ true → Seen i d → Seen (i + 1) (at b i).arrival
+  pub seen_due : (i : ℕ) (d : Option ℕ) → due_at d i ≡ true → Seen i d → Seen (i + 1) (Some (at b i).arrival)
   seen_due i d h s =
       let x = (at b i).arrival in
-      let soon = and_parts (ltb x d) (later last (at b i) && not (idle_in a r old b i)) h in
-      let less : x < d = ltb-true x d soon.0 in
-      let up : last < x = (later_parts last (at b i) (and_parts (later last (at b i)) (not (idle_in a r old b i)) soon.1).0).1 in (
-        omega (arith, up),
-        λ k n. elim (cases_eq k i) [
-          | inl y ↦ subst (λ j. later last (at b j) ≡ true → (at b j).arrival < x → idle_in a r old b j ≡ true) (sym y) (λ l m. absurd (omega (arith, m)))
-          | inr y ↦ λ l m. s.1 k (omega arith) l (omega (arith, m, less))
+      let soon = and_parts (sooner x d) (later last (at b i) && not (idle_in m old b i)) h in
+      let up : last < x = (later_parts last (at b i) (and_parts (later last (at b i)) (not (idle_in m old b i)) soon.1).0).1 in (
+        up,
+        λ k n l near. elim (cases_eq k i) [
+          | inl y ↦ absurd (omega (arith, subst (λ j. (at b j).arrival < x) y near))
+          | inr y ↦ earlier_idle d soon.0 s k (omega arith) l near
         ],
       )
-
-  -- from the first that is due to the place of the next; m is the number before it, or the last that had its turn
-  pub next_due : (d m : ℕ) (o : Option ℕ) → Due a r last old b d → last ≤ m → d ≤ m + 1 → (m ≡ last) ⊎ (m + 1 ≡ d) → o ≡ pick (later m) earlier b (length b) → NextDue a r last old b o
-  next_due d m (Some i) h up over which e = (m, up, λ j l near. idle_up d m h which j l near, e)
     where
-      idle_up : (d m : ℕ) → Due a r last old b d → (m ≡ last) ⊎ (m + 1 ≡ d) → (j : ℕ) → later last (at b j) ≡ true → (at b j).arrival ≤ m → idle_in a r old b j ≡ true
-      idle_up d m h (inl z) j l near = absurd (omega (arith, z, near, (later_parts last (at b j) l).1))
-      idle_up d m h (inr z) j l near = h.idle j l (omega (arith, z, near))
-  next_due d m None h up over which e =
-      let none = subst (Next m b) (sym e) (next_is m b) in
-      λ j l. elim (cases_lt m (at b j).arrival) [
-        | inl y ↦ let lives = (later_parts last (at b j) l).0 in absurd (both_ways _ (none j (live_within b j lives)) (later_from m (at b j) lives y))
-        | inr y ↦ elim which [ inl z ↦ absurd (omega (arith, z, y, (later_parts last (at b j) l).1)) | inr z ↦ h.idle j l (omega (arith, z, y)) ]
+      earlier_idle : (d : Option ℕ) → sooner (at b i).arrival d ≡ true → Seen i d → (k : ℕ) → k < i → later last (at b k) ≡ true → (at b k).arrival < (at b i).arrival → idle_in m old b k ≡ true
+      earlier_idle None f s k n l near = s k n l
+      earlier_idle (Some d) f s k n l near = s.1 k n l (omega (arith, near, ltb-true (at b i).arrival d f))
+
+  pub seen_more : {X : Type 0} (xs : List X) (x : X) (d : Option ℕ) → Seen (length xs + 1) d → Seen (length (xs ++ x ∷ [])) d
+  seen_more xs x d s = rw (length-append xs (x ∷ [])) s
+
+  -- the places from n on are free
+  pub seen_all : (n : ℕ) (d : Option ℕ) → FreeFrom n b → Seen n d → Due m last old b d
+  seen_all n None free_from s = λ k l. elim (cases_lt k n) [ inl y ↦ s k y l | inr y ↦ absurd (both_ways _ (ap (later last) (free_from k y)) l) ]
+  seen_all n (Some d) free_from s = (s.0, λ k l near. elim (cases_lt k n) [ inl y ↦ s.1 k y l near | inr y ↦ absurd (both_ways _ (ap (later last) (free_from k y)) l) ])
+
+  -- from the first that is due to the place of the next
+  pub next_due : (d : ℕ) (o : Option ℕ) → Due m last old b (Some d) → o ≡ pick (later (d - 1)) earlier b (length b) → NextDue m last old b o
+  next_due d (Some i) h e = (d - 1, omega (arith, h.0), λ j l near. h.1 j l (omega (arith, h.0, near)), e)
+  next_due d None h e =
+      let none = subst (Next (d - 1) b) (sym e) (next_is (d - 1) b) in
+      λ j l. elim (cases_lt (d - 1) (at b j).arrival) [
+        | inl y ↦ let lives = (later_parts last (at b j) l).0 in absurd (both_ways _ (none j (live_within b j lives)) (later_from (d - 1) (at b j) lives y))
+        | inr y ↦ h.1 j l (omega (arith, h.0, y))
       ]
 
 -- ---- no price of the book is nearer than its reach
@@ -214,14 +233,16 @@ rests_there (Some q) t h =
     let y = and_parts (eqb q.booked t.booked) (eqb q.displayed t.displayed) h in
     ap₂ (λ (x d : ℕ). let p : Prices = record { booked = x; displayed = d } in Some p) (eqb-true q.booked t.booked y.0) (eqb-true q.displayed t.displayed y.1)
 
-module _ (R : ℕ → Bool) (a : Away) (on : On R a) (r : Bests) (old b : List Order) (bounds : Bounds r b) where
+module _ (R : ℕ → Bool) (m : Market) (on : On R m.away) (old b : List Order) (bounds : Bounds m.reach b) where
   -- it comes to rest where it was
-  same_rest : (i : ℕ) (before t : Order) (c : List Order) → live t ≡ true → rest_on a t ≡ Some (prices_of t) → (eqb before.booked t.booked && eqb before.displayed t.displayed) ≡ true → settle_on a i before t c ≡ record { book = set c i t; out = [] }
+  same_rest : (i : ℕ) (before t : Order) (c : List Order) → live t ≡ true → rest_on m.away t ≡ Some (prices_of t) → (eqb before.booked t.booked && eqb before.displayed t.displayed) ≡ true → settle_on m.away i before t c ≡ record { book = set c i t; out = [] }
   same_rest i before t c l e h = cond-true (live t) _ _ l ∙ ap (λ o. branch o (record { book = c; out = Cancelled t.arrival t.remaining (cause_of t.terms) ∷ [] }) (booked_at i before t c)) e ∙ rw h refl
 
-  pub idle_turn : (i : ℕ) → Live (at b i) → idle_in a r old b i ≡ true → Idle a.best R old b i
+  pub idle_turn : (i : ℕ) → Live (at b i) → idle_in m old b i ≡ true → Idle m.away.best R old b i
   unfolding turn
   idle_turn i l h =
+      let a = m.away in
+      let r = m.reach in
       let t = at b i in
       let s = side_of t in
       let c = set b i free in

@@ -1,7 +1,7 @@
 -- Step three of a quote, turn by turn. Assumes nothing.
-use Rattle.std.proofs.Common.{◌≡◌, ℕ, suc, ◌+◌, ◌-◌, ◌<◌, ◌≤◌, Bool, true, List, [], ◌++◌, map, length, set, Some, sum_by, sym, refl, ap, ◌∙◌, append_assoc, append-nil, arith}
+use Rattle.std.proofs.Common.{◌≡◌, ℕ, suc, ◌-◌, ◌<◌, ◌≤◌, Bool, true, List, [], ◌++◌, map, length, set, Some, count_by, sum_by, sym, refl, ap, ◌∙◌, append_assoc, append-nil, arith}
 use lib.ListN.{length-map}
-use Rattle.std.proofs.lemmas.List.Sums.{count_by-le-length}
+use Rattle.std.proofs.lemmas.List.Sums.{count_by-le-length, get_or-le-sum_by}
 use Rattle.values.specs.declared.reports.Report.{Report}
 use Rattle.rules.specs.declared.Order.{Order}
 use Rattle.rules.specs.declared.Bests.{Bests}
@@ -10,9 +10,19 @@ use Rattle.rules.specs.Routing.{nowhere}
 use Rattle.rules.specs.Resting.{Out, turn}
 use Rattle.rules.specs.Quoting.{clamp, later, earlier, turns, quote}
 use Rattle.records.specs.declared.list.AppendList.{AppendList}
-use Rattle.trading_laws.proofs.Telling.{waiting}
-use Rattle.trading_laws.proofs.Skipping.{Idle, AllIdle, found_waits, nobody_waits, waits_less, turn_fewer, turns_skip, turns_rest}
+use Rattle.trading_laws.proofs.Slots.{live_within}
+use Rattle.trading_laws.proofs.Telling.{waiting, later_parts, later_from}
+use Rattle.trading_laws.proofs.Skipping.{Idle, AllIdle, found_waits, turn_fewer, turns_skip, turns_rest}
 use Rattle.book.specs.Rests.{turned, Came}
+
+-- whoever is found waits after any earlier number too
+pub waits_since : (a m : ℕ) (b : List Order) (i : ℕ) → a ≤ m → Some i ≡ pick (later m) earlier b (length b) → later a (at b i) ≡ true
+waits_since a m b i up next = let p = later_parts m (at b i) (found_waits m b i next) in later_from a (at b i) p.0 (omega (arith, p.1, up))
+
+pub somebody_waits : (a : ℕ) (b : List Order) (i : ℕ) → later a (at b i) ≡ true → 0 < count_by (later a) b
+somebody_waits a b i h =
+    let one : waiting a (at b i) ≡ 1 = rw h refl in
+    omega (arith, one, get_or-le-sum_by (waiting a) b i free (live_within b i (later_parts a (at b i) h).0))
 
 module _ (e : Bests) (R : ℕ → Bool) (old : List Order) where
   -- the whole sweep r, of which the reports `done` are written, goes on as turns n from here, where a had its turn last
@@ -52,29 +62,23 @@ module _ (e : Bests) (R : ℕ → Bool) (old : List Order) where
         out = w.out ∙ ap (λ x. done ++ x.out) same ∙ sym (append_assoc done (its_turn b i).out (turns n e R (at b i).arrival old (its_turn b i).book).out);
       })
 
-  -- ---- the loop: `done` is reported, n is fuel enough for those that wait, and so many had their turn
-  abbrev pub UnderWay : Out → ℕ → List Order → List Report → ℕ → Type 0
-  UnderWay r a b done had = (n : ℕ) × Sweeps r a b done n × (sum_by (waiting a) b ≤ n) × (sum_by (waiting a) b + had ≤ 64)
+  -- ---- the loop: `done` is reported, and n is fuel enough for those that wait
+  abbrev pub UnderWay : Out → ℕ → List Order → List Report → Type 0
+  UnderWay r a b done = (n : ℕ) × Sweeps r a b done n × (sum_by (waiting a) b ≤ n)
 
-  pub starts : (b : List Order) (had : ℕ) → length b ≡ 64 → had ≡ 0 → UnderWay (turns (length b) e R 0 old b) 0 b [] had
-  starts b had long none =
-      let few = count_by-le-length (later 0) b in
-      (length b, record { book = refl; out = refl }, few, omega (arith, few, long, none))
+  pub starts : (b : List Order) → UnderWay (turns (length b) e R 0 old b) 0 b []
+  starts b = (length b, record { book = refl; out = refl }, count_by-le-length (later 0) b)
 
   -- one turn more, of the order that arrived next after m; those up to m are idle
-  pub goes_on : (r : Out) (a m : ℕ) (b b' : List Order) (done : List Report) (had i a' : ℕ) → a ≤ m → AllIdle e R old a m b → Some i ≡ pick (later m) earlier b (length b) → a' ≡ (at b i).arrival → b' ≡ (its_turn b i).book → UnderWay r a b done had → UnderWay r a' b' (done ++ (its_turn b i).out) (had + 1)
-  goes_on r a m b b' done had i a' up idle next p q h =
+  pub goes_on : (r : Out) (a m : ℕ) (b b' : List Order) (done : List Report) (i a' : ℕ) → a ≤ m → AllIdle e R old a m b → Some i ≡ pick (later m) earlier b (length b) → a' ≡ (at b i).arrival → b' ≡ (its_turn b i).book → UnderWay r a b done → UnderWay r a' b' (done ++ (its_turn b i).out)
+  goes_on r a m b b' done i a' up idle next p q h =
       let s = sweeps_skip r a m b done h.0 up idle h.2 h.1 in
       let k = s.0 in
       let few : sum_by (waiting a') b' < sum_by (waiting m) b = rw (p, q) (turn_fewer e R old m b i (at old i) (found_waits m b i next)) in
-      (k - 1, sweeps_on r m a' b b' done k (k - 1) i (omega (arith, s.2, few)) next p q s.1, omega (arith, s.2, few), omega (arith, few, h.3, waits_less a m b up))
+      (k - 1, sweeps_on r m a' b b' done k (k - 1) i (omega (arith, s.2, few)) next p q s.1, omega (arith, s.2, few))
 
-  pub ends : (r : Out) (a : ℕ) (b : List Order) (done : List Report) (had : ℕ) → ((j : ℕ) → later a (at b j) ≡ true → Idle e R old b j) → UnderWay r a b done had → (b ≡ r.book) × (done ≡ r.out)
-  ends r a b done had idle h = sweeps_ends r a b done h.0 idle h.1
-
-  -- all 64 had their turn
-  pub runs_out : (r : Out) (a : ℕ) (b : List Order) (done : List Report) (had : ℕ) → 64 ≤ had → UnderWay r a b done had → (b ≡ r.book) × (done ≡ r.out)
-  runs_out r a b done had all h = ends r a b done had (λ j l. absurd (nobody_waits a b (omega (arith, all, h.3)) j l)) h
+  pub ends : (r : Out) (a : ℕ) (b : List Order) (done : List Report) → ((j : ℕ) → later a (at b j) ≡ true → Idle e R old b j) → UnderWay r a b done → (b ≡ r.book) × (done ≡ r.out)
+  ends r a b done idle h = sweeps_ends r a b done h.0 idle h.1
 
 pub quote_comes : (e : Bests) (R : ℕ → Bool) (old b b' b'' : List Order) (l l' : AppendList Report) → old ≡ b → b' ≡ map (clamp e R) b → Came (turns (length b') e R 0 old b') b'' l l' → Came (quote e R b) b'' l l'
 unfolding quote

@@ -10,11 +10,11 @@ use Rattle.book.specs.declared.monitor.Entered.{Entered}
 use Rattle.book.specs.declared.monitor.Passed.{Passed}
 
 abbrev pub passed : Entered → Kind × ℕ → Passed
-passed o g = record { id = o.id; firm = o.firm; side = o.side; kind = g.0; limit = g.1; protection = o.protection; size = o.size }
+passed o g = record { terms = record { id = o.id; firm = o.firm; side = o.side; kind = g.0; limit = g.1; protection = o.protection; size = o.size } }
 
 abbrev pub judged : Result (Kind × ℕ) MonitorFault → Entered → Result Passed MonitorFault
 judged (Ok g) o = Ok (passed o g)
 judged (Err f) o = Err f
 
 abbrev pub terms_of : Passed → Terms
-terms_of p = record { id = p.id; firm = p.firm; side = p.side; kind = p.kind; limit = p.limit; protection = p.protection; size = p.size }
+terms_of p = p.terms

@@ -7,7 +7,7 @@ use rules::{Bests, Terms};
 use values::faults::MonitorFault;
 use values::terms::{Kind, Side};
 
-// An order as it came in, with its protection limit.
+// An order as it came in, with its protection limit. Not `Terms`, which can be copied: an order goes to the monitor once.
 #[derive(Drop)]
 pub struct Entered {
     pub id: u32,
@@ -21,13 +21,7 @@ pub struct Entered {
 
 // An order that the monitor has passed. It cannot be made elsewhere, copied or let go: it is traded, once.
 pub struct Passed {
-    id: u32,
-    firm: u32,
-    side: Side,
-    kind: Kind,
-    limit: u32,
-    protection: u32,
-    size: u32,
+    terms: Terms,
 }
 
 // What the monitor looks at: the national best, the best displayed here, the lowest rung and the width mark.
@@ -83,7 +77,7 @@ pub fn pass_monitor(order: Entered, sight: Sight) -> Result<Passed, MonitorFault
         size,
     } = order;
     let (kind, limit) = judge(sight, kind, side, limit)?;
-    Ok(Passed {
+    let terms = Terms {
         id,
         firm,
         side,
@@ -91,29 +85,15 @@ pub fn pass_monitor(order: Entered, sight: Sight) -> Result<Passed, MonitorFault
         limit,
         protection,
         size,
-    })
+    };
+    Ok(Passed { terms })
 }
 
 // What a passed order is entered with; only trading asks, and takes the order.
+// Not `From`: an impl could be called from other crates, and only the book may spend a passed order.
 pub fn terms_of(passed: Passed) -> Terms
     ensures { result ≡ terms_of passed }
 {
-    let Passed {
-        id,
-        firm,
-        side,
-        kind,
-        limit,
-        protection,
-        size,
-    } = passed;
-    Terms {
-        id,
-        firm,
-        side,
-        kind,
-        limit,
-        protection,
-        size,
-    }
+    let Passed { terms } = passed;
+    terms
 }

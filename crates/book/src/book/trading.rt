@@ -49,7 +49,7 @@ impl Book {
         taker.remaining -= size;
     }
 
-    // Trades until no order suits, which is at most once for each place; what is left of the taker.
+    // Trades until no order suits; what is left of the taker. Each fill does away with its maker or with the taker.
     fn trade(&mut self, best: Bests, taker: Order, reports: &mut AppendList<'_, Report>) -> Order
         requires { used reports.old + length (trade (length (orders_of self.old)) best taker (orders_of self.old)).out ≤ capacity reports.old }
         ensures taker { result ≡ (trade (length (orders_of self.old)) best taker (orders_of self.old)).taker }
@@ -57,11 +57,8 @@ impl Book {
         ensures reported { Grown reports.old (trade (length (orders_of self.old)) best taker (orders_of self.old)).out reports.new }
     {
         let mut left = taker;
-        for fills in 0..64u32 {
-            match self.maker(best, &left) {
-                None => return left,
-                Some(i) => self.fill_one(i, &mut left, reports),
-            }
+        while let Some(i) = self.maker(best, &left) {
+            self.fill_one(i, &mut left, reports);
         }
         left
     }

@@ -15,17 +15,10 @@ use rules::{Bests, Order};
 use values::terms::Side;
 
 impl Orders {
-    // No order rests in a place from here on.
-    pub fn extent(&self) -> usize
-        ensures inside { result ≤ 64 }
-        ensures beyond { FreeFrom result (orders_in self.now) }
-    {
-        self.extent
-    }
-
     // The places up to the extent; no order rests in another.
-    pub(super) fn used(&self) -> &[Order]
-        ensures { result.now ≡ take self.now.extent (orders_in self.now) }
+    pub fn used(&self) -> &[Order]
+        ensures places { result.now ≡ take self.now.extent (orders_in self.now) }
+        ensures beyond { FreeFrom (length result.now) (orders_in self.now) }
     {
         &self.places[..self.extent]
     }

@@ -1,33 +1,43 @@
-use Rattle.std.proofs.Common.{◌+◌, sym, ap, ◌∙◌, subst, inl, inr, arith}
-use Rattle.rules.specs.Quoting.{later}
-use Rattle.std.proofs.lemmas.Bool.{cases_lt, both_ways}
+use Rattle.std.proofs.Common.{◌≡◌, ◌+◌, Some, length, sym, ap, ◌∙◌, subst, rules, arith, length-take}
+use Rattle.std.proofs.lemmas.List.{get_or-take}
+use Rattle.std.proofs.lemmas.Slice.Zip.{zip_turn, zip_end}
+use Rattle.rules.specs.Book.{free, at}
 use Rattle.book.specs.Books.{orders_of}
-use Rattle.book.proofs.Idling.{Seen, due_is, seen_idle, seen_due}
+use Rattle.book.proofs.Idling.{Seen, due_is, seen_idle, seen_due, seen_more, seen_all}
 use Rattle.book.proofs.book.Book.first_due.Goals as goal
-use Rattle.book.proofs.book.Book.first_due.Goals.{then-is_due, else-is_due}
 
-pub loop-i-preserved : goal.loop-i-preserved
-loop-i-preserved c =
-    let a = c.args.away in
-    let r = c.args.reach in
-    let last = c.args.last in
-    let old = c.args.before.now in
+pub loop-order-preserved-then-is_due : goal.loop-order-preserved-then-is_due
+loop-order-preserved-then-is_due c =
     let b = orders_of c.args.self.now in
-    let i = c.loop-i.i in
-    let d = c.loop-i.due in
-    let test = due_is a r last old b d i c.is_due.result c.order-order.result c.is_due.ensures c.order-order.ensures in
-    elim c.if-is_due.branch [
-      | then-is_due w ↦ subst (Seen a r last old b (i + 1)) (sym (w.due-is ∙ ap (λ o. o.arrival) c.order-order.ensures)) (seen_due a r last old b i d (test ∙ w.if-is_due.true) c.loop-i.invariant)
-      | else-is_due w ↦ subst (Seen a r last old b (i + 1)) (sym w.due-is) (seen_idle a r last old b i d (test ∙ w.if-is_due.false) c.loop-i.invariant)
-    ]
+    let old = c.args.before.now in
+    let xs = c.loop-order.yielded in
+    let n = length xs in
+    let d = c.loop-order.due in
+    let turn = zip_turn c.used.result.now old xs c.into_iter-order-iterator.result c.loop-order.order-iterator c.next.new.self c.next.result (search rules) (search rules) c.loop-order.yielded_by (c.in-Some.order, c.in-Some.before) c.in-Some.is c.next.ensures.steps in
+    let same : c.in-Some.order.now ≡ at b n = turn.2 free ∙ ap (λ ks. at ks n) c.used.ensures.places ∙ get_or-take c.args.self.now.orders.extent b n free (search rules) in
+    let test = due_is c.args.market c.args.last old b d n c.is_due.result c.in-Some.before.now c.in-Some.order.now c.is_due.ensures (turn.3 free) same in
+    let seen = seen_due c.args.market c.args.last old b n d (test ∙ c.if-is_due.true) c.loop-order.invariant in
+    seen_more c.args.market c.args.last old b xs _ (Some c.in-Some.order.now.arrival) (subst (λ o. Seen c.args.market c.args.last old b (n + 1) (Some o.arrival)) (sym same) seen)
+
+pub loop-order-preserved : goal.loop-order-preserved
+loop-order-preserved c =
+    let b = orders_of c.args.self.now in
+    let old = c.args.before.now in
+    let xs = c.loop-order.yielded in
+    let n = length xs in
+    let d = c.loop-order.due in
+    let turn = zip_turn c.used.result.now old xs c.into_iter-order-iterator.result c.loop-order.order-iterator c.next.new.self c.next.result (search rules) (search rules) c.loop-order.yielded_by (c.in-Some.order, c.in-Some.before) c.in-Some.is c.next.ensures.steps in
+    let same : c.in-Some.order.now ≡ at b n = turn.2 free ∙ ap (λ ks. at ks n) c.used.ensures.places ∙ get_or-take c.args.self.now.orders.extent b n free (search rules) in
+    let test = due_is c.args.market c.args.last old b d n c.is_due.result c.in-Some.before.now c.in-Some.order.now c.is_due.ensures (turn.3 free) same in
+    seen_more c.args.market c.args.last old b xs _ d (seen_idle c.args.market c.args.last old b n d (test ∙ c.if-is_due.false) c.loop-order.invariant)
 
 pub returns : goal.returns
 returns c =
-    let last = c.args.last in
-    record {
-      some = c.loop-i.invariant.0;
-      idle = λ k l before. elim (cases_lt k c.loop-i.i) [
-        | inl y ↦ c.loop-i.invariant.1 k y l before
-        | inr y ↦ absurd (both_ways _ (ap (later last) (c.extent-i-end.ensures.beyond k (omega arith))) l)
-      ];
-    }
+    let b = orders_of c.args.self.now in
+    let old = c.args.before.now in
+    let xs = c.loop-order.yielded in
+    let ks = c.used.result.now in
+    let end = zip_end ks old xs c.into_iter-order-iterator.result c.loop-order.order-iterator c.next.new.self c.next.result (search rules) (search rules) c.loop-order.yielded_by c.in-None.is c.next.ensures.steps in
+    let long : length xs ≡ length ks = omega (arith, end, ap length c.used.ensures.places, length-take c.args.self.now.orders.extent b, c.args.self.now.orders.inside, c.args.self.now.orders.full) in
+    let all : Seen c.args.market c.args.last old b (length ks) c.loop-order.due = subst (λ n. Seen c.args.market c.args.last old b n c.loop-order.due) long c.loop-order.invariant in
+    seen_all c.args.market c.args.last old b (length ks) c.loop-order.due c.used.ensures.beyond all

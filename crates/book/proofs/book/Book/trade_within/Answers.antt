@@ -11,6 +11,6 @@ pub returns-else-suits : goal.returns-else-suits
 returns-else-suits c =
     let b = orders_of c.args.self.now in
     let t = c.args.taker in
-    let far : fits c.args.best t (facing c.args.reach (side_of t)) ≡ false = sym (ap (fits c.args.best t) c.met.ensures) ∙ sym c.suits.ensures ∙ c.if-suits.false in
-    let none = no_trade c.args.best c.args.reach (length b) t b c.requires.1 far in
+    let far : fits c.args.market.away.best t (facing c.args.market.reach (side_of t)) ≡ false = sym (ap (fits c.args.market.away.best t) c.met.ensures) ∙ sym c.suits.ensures ∙ c.if-suits.false in
+    let none = no_trade c.args.market.away.best c.args.market.reach (length b) t b c.requires.1 far in
     record { taker = sym (ap (λ d. d.taker) none); book = sym (ap (λ d. d.book) none); reported = rw (ap (λ d. d.out) none) (grown_none _) }

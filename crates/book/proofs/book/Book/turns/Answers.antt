@@ -1,49 +1,64 @@
-use Rattle.std.proofs.Common.{[], sym, ap, ◌∙◌, subst, rules}
+use Rattle.std.proofs.Common.{[], ◌≡◌, ◌<◌, true, count_by, sym, ap, ◌∙◌, subst, rules, arith}
+use Rattle.std.proofs.lemmas.List.Sums.{count_by-le-length}
 use Rattle.records.proofs.Growing.{grown_none, grown_more}
 use Rattle.trading_laws.proofs.Telling.{later_parts}
-use Rattle.trading_laws.proofs.Skipping.{found_waits}
 use Rattle.rules.specs.Book.{at}
+use Rattle.rules.specs.Quoting.{later}
 use Rattle.table.specs.Reach.{widened}
 use Rattle.book.specs.Books.{orders_of}
 use Rattle.book.specs.Idle.{Bounds}
 use Rattle.book.proofs.Idling.{idle_turn}
-use Rattle.book.proofs.Sweep.{starts, goes_on, ends, runs_out}
+use Rattle.book.proofs.Sweep.{waits_since, somebody_waits, starts, goes_on, ends}
 use Rattle.book.proofs.book.Book.turns.Goals as goal
 
-pub loop-had-init : goal.loop-had-init
-loop-had-init c = (search rules, search rules, c.requires.1, λ R on. ([], grown_none _, starts _ R _ _ 0 c.args.self.now.orders.full (search rules)))
-
-pub returns-in-None : goal.returns-in-None
-returns-in-None c R on =
-    let inv = c.loop-had.invariant.3 R on in
-    let b = orders_of c.loop-had.self in
-    let end = ends _ R c.args.before.now _ _ b inv.0 _ (λ j l. idle_turn R c.args.away on c.loop-had.reach c.args.before.now b c.loop-had.invariant.2 j (later_parts _ (at b j) l).0 (c.in-None.ensures.next j l)) inv.2 in
-    record { book = end.0; reported = rw end.1 at inv.1 }
+pub loop-i-init : goal.loop-i-init
+loop-i-init c =
+    let few = count_by-le-length (later 0) (orders_of c.args.self.now) in
+    (omega (arith, few, c.args.self.now.orders.full), search rules, c.requires.1, λ R on. ([], grown_none _, starts _ R _ _))
 
 pub turn-requires : goal.turn-requires
 turn-requires c =
-    let b = orders_of c.loop-had.self in
+    let b = orders_of c.loop-i.self in
+    let i = c.in-Some.i in
+    let last = c.loop-i.last in
     let due = c.in-Some.ensures.next in
-    (search rules, ((later_parts due.0 (at b c.in-Some.i) (found_waits due.0 b c.in-Some.i due.3)).0, (search rules, c.loop-had.invariant.2)))
+    let waits : later last (at b i) ≡ true = waits_since last due.0 b i due.1 due.3 in
+    let some = somebody_waits last b i waits in
+    (search rules, ((later_parts last (at b i) waits).0, (omega (arith, some, c.requires, c.loop-i.invariant.0, c.loop-i.invariant.1), c.loop-i.invariant.2)))
 
-pub loop-had-preserved : goal.loop-had-preserved
-loop-had-preserved c =
+pub loop-i-preserved : goal.loop-i-preserved
+loop-i-preserved c =
     let its = c.turn.ensures in
-    let b = orders_of c.loop-had.self in
-    let due = c.in-Some.ensures.next in (
-      search rules,
-      its.room ∙ c.loop-had.invariant.1,
-      subst (λ x. Bounds x (orders_of c.turn.new.self)) (sym (c.widened-reach.ensures ∙ ap (λ o. widened o c.loop-had.reach) c.order.ensures)) its.reach,
+    let b = orders_of c.loop-i.self in
+    let i = c.in-Some.i in
+    let last = c.loop-i.last in
+    let due = c.in-Some.ensures.next in
+    let less : count_by (later c.order-last.result.arrival) (orders_of c.turn.new.self) < count_by (later last) b =
+    subst (λ o. count_by (later o.arrival) (orders_of c.turn.new.self) < count_by (later last) b) (sym c.order-last.ensures) (its.fewer last (waits_since last due.0 b i due.1 due.3))
+    in (
+      omega (arith, less, its.spent, c.loop-i.invariant.0),
+      its.room ∙ c.loop-i.invariant.1,
+      subst (λ x. Bounds x (orders_of c.turn.new.self)) (sym (c.widened-reach.ensures ∙ ap (λ o. widened o c.loop-i.reach) c.order.ensures)) its.reach,
       λ R on.
-          let inv = c.loop-had.invariant.3 R on in (
+          let inv = c.loop-i.invariant.3 R on in (
             _,
             grown_more _ _ _ _ _ inv.1 (its.turned R on).reported,
-            goes_on _ R c.args.before.now _ c.loop-had.last due.0 b _ inv.0 c.loop-had.had c.in-Some.i _ due.1 (λ j l up. idle_turn R c.args.away on c.loop-had.reach c.args.before.now b c.loop-had.invariant.2 j (later_parts _ (at b j) l).0 (due.2 j l up)) due.3 (search rules) (its.turned R on).book inv.2,
+            goes_on _ R c.args.before.now _ last due.0 b _ inv.0 i _ due.1 (λ j l up. idle_turn R (record { away = c.args.away; reach = c.loop-i.reach }) on c.args.before.now b c.loop-i.invariant.2 j (later_parts _ (at b j) l).0 (due.2 j l up)) due.3 (search rules) (its.turned R on).book inv.2,
           ),
     )
 
+pub loop-i-smaller : goal.loop-i-smaller
+loop-i-smaller c =
+    let b = orders_of c.loop-i.self in
+    let due = c.in-Some.ensures.next in
+    let last = c.loop-i.last in
+    let less : count_by (later c.order-last.result.arrival) (orders_of c.turn.new.self) < count_by (later last) b =
+    subst (λ o. count_by (later o.arrival) (orders_of c.turn.new.self) < count_by (later last) b) (sym c.order-last.ensures) (c.turn.ensures.fewer last (waits_since last due.0 b c.in-Some.i due.1 due.3))
+    in less
+
 pub returns : goal.returns
 returns c R on =
-    let inv = c.loop-had.invariant.3 R on in
-    let end = runs_out _ R c.args.before.now _ _ _ inv.0 c.loop-had.had (search rules) inv.2 in
+    let inv = c.loop-i.invariant.3 R on in
+    let b = orders_of c.loop-i.self in
+    let end = ends _ R c.args.before.now _ _ b inv.0 (λ j l. idle_turn R (record { away = c.args.away; reach = c.loop-i.reach }) on c.args.before.now b c.loop-i.invariant.2 j (later_parts _ (at b j) l).0 (c.in_default.ensures.next j l)) inv.2 in
     record { book = end.0; reported = rw end.1 at inv.1 }

@@ -1,5 +1,5 @@
 // Turns: an order that rests trades again, and comes to rest again.
-ghost use Rattle.std.specs.Prelude.{◌≡◌, ℕ, ◌+◌, ◌<◌, ◌≤◌, Bool, not, ◌&&◌, length, set, nat_lt, slice_set};
+ghost use Rattle.std.specs.Prelude.{◌≡◌, ℕ, ◌+◌, ◌<◌, ◌≤◌, Bool, true, not, ◌&&◌, count_by, length, set, slice_set};
 ghost use Rattle.rules.specs.Book.{free, at, Live, taken};
 ghost use Rattle.rules.specs.Trading.{trade};
 ghost use Rattle.rules.specs.Routing.{nowhere};
@@ -11,7 +11,7 @@ ghost use Rattle.table.specs.Places.{Inside};
 ghost use Rattle.table.specs.Reach.{widened};
 ghost use Rattle.book.specs.Books.{orders_of};
 ghost use Rattle.book.specs.Rests.{Came, turned};
-ghost use Rattle.book.specs.Idle.{Bounds, stays_as, idle_as, idle_on, Due, NextDue};
+ghost use Rattle.book.specs.Idle.{Bounds, stays_as, idle_as, idle_on, sooner, Due, NextDue};
 
 use super::{prices_of, rest_as};
 use crate::book::Book;
@@ -23,49 +23,69 @@ use table::sides::{Away, beyond, met};
 use values::reports::Report;
 use values::terms::Side;
 
-// It would rest at the prices that it has.
-fn stays_as(side: Side, away: Away, order: &Order) -> bool
-    ensures { result ≡ stays_as side away order.now }
-{
-    rest_as(side, away, &order.terms) == Some(prices_of(order))
+// What a turn looks at: the away market, and the most aggressive booked prices here.
+// That no booked price is past the reach is a clause, not a ghost field: it speaks of the book as well, and a turn breaks it
+// until the reach is widened.
+#[derive(Clone, Copy)]
+struct Market {
+    away: Away,
+    reach: Bests,
 }
 
-// No contra order is booked at a price as good as its own, and it stays where it rests, as before the call.
-fn is_idle_as(side: Side, away: Away, reach: Bests, before: &Order, order: &Order) -> bool
-    ensures { result ≡ idle_as side away reach before.now order.now }
+// It arrived before `due`, where there is one.
+fn is_sooner(order: &Order, due: Option<u32>) -> bool
+    ensures { result ≡ sooner order.now.arrival due }
 {
-    prices_of(before) == prices_of(order)
-        && (beyond(side, order.booked, met(reach, side)) && stays_as(side, away, order))
-}
-
-// It has nothing to do in its turn; `reach` has the most aggressive booked prices.
-fn is_idle(away: Away, reach: Bests, before: &Order, order: &Order) -> bool
-    ensures { result ≡ idle_on away reach before.now order.now }
-{
-    match order.terms.side {
-        Side::Buy => is_idle_as(Side::Buy, away, reach, before, order),
-        Side::Sell => is_idle_as(Side::Sell, away, reach, before, order),
+    match due {
+        Some(first) => order.arrival < first,
+        None => true,
     }
 }
 
-// It arrived after `last` and before `due`, and is not idle.
-fn is_due(last: u32, due: u32, away: Away, reach: Bests, before: &Order, order: &Order) -> bool
-    ensures { result ≡ (nat_lt order.now.arrival due && (later last order.now && not (idle_on away reach before.now order.now))) }
-{
-    order.arrival < due && (comes_after(last, order) && !is_idle(away, reach, before, order))
+impl Market {
+    // An order of this side would rest at the prices that it has.
+    fn stays_as(self, side: Side, order: &Order) -> bool
+        ensures { result ≡ stays_as side self.away order.now }
+    {
+        rest_as(side, self.away, &order.terms) == Some(prices_of(order))
+    }
+
+    // No contra order is booked at a price as good as its own, and it stays where it rests, as before the call.
+    fn is_idle_as(self, side: Side, before: &Order, order: &Order) -> bool
+        ensures { result ≡ idle_as side self before.now order.now }
+    {
+        prices_of(before) == prices_of(order)
+            && (beyond(side, order.booked, met(self.reach, side)) && self.stays_as(side, order))
+    }
+
+    // It has nothing to do in its turn.
+    fn is_idle(self, before: &Order, order: &Order) -> bool
+        ensures { result ≡ idle_on self before.now order.now }
+    {
+        // Each side by itself, so that a scan over the places decides it once an order.
+        match order.terms.side {
+            Side::Buy => self.is_idle_as(Side::Buy, before, order),
+            Side::Sell => self.is_idle_as(Side::Sell, before, order),
+        }
+    }
+
+    // It arrived after `last` and before `due`, and is not idle.
+    fn is_due(self, last: u32, due: Option<u32>, before: &Order, order: &Order) -> bool
+        ensures { result ≡ (sooner order.now.arrival due && (later last order.now && not (idle_on self before.now order.now))) }
+    {
+        is_sooner(order, due) && (comes_after(last, order) && !self.is_idle(before, order))
+    }
 }
 
 impl Book {
-    // The smallest arrival number after `last` of an order that may have something to do in its turn; the largest number
-    // of all where there is none.
-    fn first_due(&self, last: u32, away: Away, reach: Bests, before: &[Order; 64]) -> u32
-        ensures { Due away reach last before.now (orders_of self.now) result }
+    // The smallest arrival number after `last` of an order that may have something to do in its turn.
+    fn first_due(&self, last: u32, market: Market, before: &[Order; 64]) -> Option<u32>
+        ensures { Due market last before.now (orders_of self.now) result }
     {
-        let mut due = u32::MAX;
-        for i in 0..self.orders.extent() {
-            let order = self.orders.order(i);
-            if is_due(last, due, away, reach, &before[i], &order) {
-                due = order.arrival;
+        let mut due = None;
+        for (order, before) in self.orders.used().iter().zip(before) {
+            if market.is_due(last, due, before, order) {
+                due = Some(order.arrival);
             }
         }
         due
@@ -73,28 +93,28 @@ impl Book {
 
     // The place of the next order that may have something to do in its turn. Those before it would stay as they are, so
     // that they need no turn.
-    fn next_due(&self, last: u32, away: Away, reach: Bests, before: &[Order; 64]) -> Option<usize>
-        ensures next { NextDue away reach last before.now (orders_of self.now) result }
+    fn next_due(&self, last: u32, market: Market, before: &[Order; 64]) -> Option<usize>
+        ensures next { NextDue market last before.now (orders_of self.now) result }
         ensures inside { Inside result }
     {
-        let due = self.first_due(last, away, reach, before);
-        self.orders.next_after(last.max(due - 1))
+        let due = self.first_due(last, market, before)?;
+        self.orders.next_after(due - 1)
     }
 
     // Trades, where some booked price may suit the taker.
     fn trade_within(
         &mut self,
-        reach: Bests,
-        best: Bests,
+        market: Market,
         taker: Order,
         reports: &mut AppendList<'_, Report>,
     ) -> Order
-        requires { (used reports.old + length (trade (length (orders_of self.old)) best taker (orders_of self.old)).out ≤ capacity reports.old) × (Bounds reach (orders_of self.old)) }
-        ensures taker { result ≡ (trade (length (orders_of self.old)) best taker (orders_of self.old)).taker }
-        ensures book { orders_of self.new ≡ (trade (length (orders_of self.old)) best taker (orders_of self.old)).book }
-        ensures reported { Grown reports.old (trade (length (orders_of self.old)) best taker (orders_of self.old)).out reports.new }
+        requires { (used reports.old + length (trade (length (orders_of self.old)) market.away.best taker (orders_of self.old)).out ≤ capacity reports.old) × (Bounds market.reach (orders_of self.old)) }
+        ensures taker { result ≡ (trade (length (orders_of self.old)) market.away.best taker (orders_of self.old)).taker }
+        ensures book { orders_of self.new ≡ (trade (length (orders_of self.old)) market.away.best taker (orders_of self.old)).book }
+        ensures reported { Grown reports.old (trade (length (orders_of self.old)) market.away.best taker (orders_of self.old)).out reports.new }
     {
-        if suits(best, &taker, met(reach, taker.terms.side)) {
+        let best = market.away.best;
+        if suits(best, &taker, met(market.reach, taker.terms.side)) {
             self.trade(best, taker, reports)
         } else {
             taker
@@ -104,22 +124,22 @@ impl Book {
     // The order at this place has its turn; `before` has its prices before the call. It is never routed.
     fn turn(
         &mut self,
-        away: Away,
-        reach: Bests,
+        market: Market,
         i: usize,
         before: &Order,
         reports: &mut AppendList<'_, Report>,
     )
-        requires { (i < 64) × ((Live (at (orders_of self.old) i)) × ((used reports.old + taken (orders_of self.old) + 1 ≤ capacity reports.old) × (Bounds reach (orders_of self.old)))) }
-        ensures turned { (R : ℕ → Bool) → On R away → Came (turned (turn away.best R nowhere i before.now (at (orders_of self.old) i) (slice_set (orders_of self.old) i free))) (orders_of self.new) reports.old reports.new }
+        requires { (i < 64) × ((Live (at (orders_of self.old) i)) × ((used reports.old + taken (orders_of self.old) + 1 ≤ capacity reports.old) × (Bounds market.reach (orders_of self.old)))) }
+        ensures turned { (R : ℕ → Bool) → On R market.away → Came (turned (turn market.away.best R nowhere i before.now (at (orders_of self.old) i) (slice_set (orders_of self.old) i free))) (orders_of self.new) reports.old reports.new }
         ensures spent { used reports.new + taken (orders_of self.new) ≤ used reports.old + taken (orders_of self.old) + 1 }
         ensures room { capacity reports.new ≡ capacity reports.old }
-        ensures reach { Bounds (widened (at (orders_of self.new) i) reach) (orders_of self.new) }
+        ensures fewer { (a : ℕ) → later a (at (orders_of self.old) i) ≡ true → count_by (later (at (orders_of self.old) i).arrival) (orders_of self.new) < count_by (later a) (orders_of self.old) }
+        ensures reach { Bounds (widened (at (orders_of self.new) i) market.reach) (orders_of self.new) }
     {
         let taker = self.orders.order(i);
         self.orders.clear(i);
-        let left = self.trade_within(reach, away.best, taker, reports);
-        self.settle(away, i, before, &left, reports);
+        let left = self.trade_within(market, taker, reports);
+        self.settle(market.away, i, before, &left, reports);
     }
 
     // Step three of a quote: each order still resting has its turn, in arrival order. No booked price is past `reach`.
@@ -134,15 +154,10 @@ impl Book {
         ensures { (R : ℕ → Bool) → On R away → Came (turns (length (orders_of self.old)) away.best R 0 before.now (orders_of self.old)) (orders_of self.new) reports.old reports.new }
     {
         let mut last = 0;
-        for had in 0..64u32 {
-            match self.next_due(last, away, reach, before) {
-                None => return,
-                Some(i) => {
-                    last = self.orders.order(i).arrival;
-                    self.turn(away, reach, i, &before[i], reports);
-                    reach = widened(&self.orders.order(i), reach);
-                }
-            }
+        while let Some(i) = self.next_due(last, Market { away, reach }, before) {
+            last = self.orders.order(i).arrival;
+            self.turn(Market { away, reach }, i, &before[i], reports);
+            reach = widened(&self.orders.order(i), reach);
         }
     }
 

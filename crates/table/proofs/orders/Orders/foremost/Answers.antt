@@ -25,6 +25,6 @@ returns-then-ends-clause-picks g c =
     let s = c.args.search.now in
     let i = c.loop-i.i in
     let first : ahead (g.S.Search.takes s) (g.S.Search.prefers s) b i c.loop-i.held ≡ true = sym c.if-leads.ensures in
-    let same : at c.used-order-items.result.now i ≡ at b i = ap (λ xs. at xs i) c.used-order-items.ensures ∙ get_or-take c.args.self.now.extent b i free (search rules) in
+    let same : at c.used-order-items.result.now i ≡ at b i = ap (λ xs. at xs i) c.used-order-items.ensures.places ∙ get_or-take c.args.self.now.extent b i free (search rules) in
     let ends : g.S.Search.ends s (at b i) ≡ true = ap (g.S.Search.ends s) (sym same) ∙ sym c.if-ends.ensures in
     sym (pick_last (g.S.Search.takes s) (g.S.Search.prefers s) b i (λ y t. g.met.S.Search.unbeaten s (at b i) y ends t) (length b) (rw c.loop-i.invariant.held at first) (search rules))
