@@ -13,5 +13,5 @@ module _ {T : Type 0} where
     place = h.place ∙ g.place;
     room = h.room ∙ g.room;
     added = h.added ∙ ap (λ zs. zs ++ ys) g.added ∙ append_assoc (contents l) xs ys;
-    used = omega (arith, h.used, g.used, length-append xs ys);
+    used = omega (arith, length-append xs ys);
   }

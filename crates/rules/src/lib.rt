@@ -31,7 +31,7 @@ pub struct Order {
 }
 
 // Where an order rests: the price that it trades at, and the one that is shown.
-#[derive(Clone, Copy)]
+#[derive(Clone, Copy, PartialEq, Eq)]
 pub struct Prices {
     pub booked: u32,
     pub displayed: u32,

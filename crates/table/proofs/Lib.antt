@@ -1,5 +1,5 @@
-pub mod Keeps
 pub mod Mapped
 pub mod Picks
 pub mod Counts
 pub mod Seats
+pub mod Firsts

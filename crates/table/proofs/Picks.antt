@@ -1,15 +1,18 @@
 -- One place more of a search through the table. Assumes nothing.
-use Rattle.std.proofs.Common.{◌≡◌, ℕ, zero, suc, ◌+◌, ◌<◌, ◌≤◌, Bool, true, false, cond, ltb, ◌≢◌, List, length, set, Some, None, Option, sym, refl, ap, ◌∙◌, ⊎_elim, add-one, arith, get_or-set_other}
-use Rattle.std.proofs.lemmas.Bool.{cases_lt, and_parts, and_left, and_right, ltb-true, le-ltb}
+use Rattle.std.proofs.Common.{◌≡◌, ℕ, zero, suc, ◌+◌, ◌<◌, ◌≤◌, Bool, true, false, cond, ◌≢◌, List, length, take, set, Some, None, Option, sym, refl, ap, ◌∙◌, ⊎_elim, add-one, arith, get_or-set_other}
+use Rattle.std.proofs.lemmas.Bool.{cases_lt, and_left, and_right}
+use Rattle.std.proofs.lemmas.List.{get_or-take, length-take-le}
+use Rattle.std.proofs.lemmas.List.Quantifiers.{position-Some}
+use Rattle.std.specs.List.{position, fold}
 use Rattle.values.specs.declared.terms.Side.{Side}
 use Rattle.values.specs.declared.terms.Side.TheVariants.{Buy, Sell}
 use Rattle.rules.specs.declared.Order.{Order}
 use Rattle.rules.specs.declared.Bests.{Bests}
 use Rattle.rules.specs.Sides.{top, tops}
 use Rattle.rules.specs.Book.{free, at, branch, pick, shown}
-use Rattle.rules.specs.Quoting.{later, earlier}
 use Rattle.table.specs.Places.{ahead, FreeFrom}
 use Rattle.table.specs.Reach.{beside, widened, reach}
+use Rattle.table.proofs.Firsts.{position-None, folded}
 
 module _ (c : Order → Bool) (lt : Order → Order → Bool) (b : List Order) where
   pub pick_none : pick c lt b 0 ≡ None
@@ -61,29 +64,41 @@ module _ (c : Order → Bool) (b : List Order) where
       rw (same, ← add-one) (rw (pick_more c (λ x y. false) b k, e, f) refl))
       (cases_lt k n)
 
-pub ahead_takes : (c : Order → Bool) (lt : Order → Order → Bool) (b : List Order) (k : ℕ) (o : Option ℕ) → ahead c lt b k o ≡ true → c (at b k) ≡ true
-ahead_takes c lt b k None h = h
-ahead_takes c lt b k (Some i) h = (and_parts _ _ h).0
+  -- the library's search of the first n places
+  pub first_before : (k : ℕ) → ((j : ℕ) → j < k → c (at b j) ≡ false) → first k ≡ None
+  first_before zero f = pick_none c (λ x y. false) b
+  first_before (suc k) f = rw (← add-one) (first_passed k (first_before k (λ j l. f j (omega arith))) (f k (omega arith)))
 
--- none arrives sooner than one number after a
-module _ (a : ℕ) (b : List Order) (k : ℕ) (soon : (at b k).arrival ≡ a + 1) where
-  no_sooner : (n : ℕ) → ahead (later a) earlier b n (Some k) ≡ false
-  no_sooner n = go (later a (at b n)) refl
+  pub first_position : (n : ℕ) → n ≤ length b → position c (take n b) ≡ first n
+  first_position n h = go (position c (take n b)) refl
     where
-      go : (x : Bool) → later a (at b n) ≡ x → ahead (later a) earlier b n (Some k) ≡ false
-      go false e = and_left _ _ e
-      go true e =
-          let up = ltb-true a (at b n).arrival (and_parts (ltb 0 (at b n).remaining) (ltb a (at b n).arrival) e).1 in
-          and_right _ _ (le-ltb (at b n).arrival (at b k).arrival (omega (arith, up, soon)))
+      long : length (take n b) ≡ n
+      long = length-take-le n b h
 
-  pub pick_soonest : (n : ℕ) → ahead (later a) earlier b k (pick (later a) earlier b k) ≡ true → k < n → pick (later a) earlier b n ≡ Some k
-  pick_soonest zero h l = absurd (omega arith)
-  pick_soonest (suc n) h l =
+      go : (r : Option ℕ) → position c (take n b) ≡ r → r ≡ first n
+      go None e = sym (first_before n (λ j l. ap c (sym (get_or-take n b j free l)) ∙ position-None c (take n b) j free e (omega (arith, long, l))))
+      go (Some i) e =
+          let f = position-Some c (take n b) i free e in
+          let l : i < n = omega (arith, f.0, long) in
+          sym (first_found i n (first_before i (λ j m. ap c (sym (get_or-take n b j free (omega (arith, m, l)))) ∙ f.2 j m)) (ap c (sym (get_or-take n b i free l)) ∙ f.1) l)
+
+-- an order that none goes before stays the one that is held
+module _ (c : Order → Bool) (lt : Order → Order → Bool) (b : List Order) (k : ℕ) (last : (y : Order) → c y ≡ true → lt y (at b k) ≡ false) where
+  none_ahead : (n : ℕ) → ahead c lt b n (Some k) ≡ false
+  none_ahead n = go (c (at b n)) refl
+    where
+      go : (x : Bool) → c (at b n) ≡ x → ahead c lt b n (Some k) ≡ false
+      go false e = and_left _ _ e
+      go true e = and_right _ _ (last (at b n) e)
+
+  pub pick_last : (n : ℕ) → ahead c lt b k (pick c lt b k) ≡ true → k < n → pick c lt b n ≡ Some k
+  pick_last zero h l = absurd (omega arith)
+  pick_last (suc n) h l =
       ⊎_elim
-      (λ (m : k < n). rw (← add-one) (rw (pick_more (later a) earlier b n, pick_soonest n h m, no_sooner n) refl))
+      (λ (m : k < n). rw (← add-one) (rw (pick_more c lt b n, pick_last n h m, none_ahead n) refl))
       (λ (m : n ≤ k).
       let same : n ≡ k = omega arith in
-      rw (same, ← add-one) (rw (pick_more (later a) earlier b k, h) refl))
+      rw (same, ← add-one) (rw (pick_more c lt b k, h) refl))
       (cases_lt k n)
 
 pub tops_none : (s : Side) (f : ℕ → ℕ) → tops s f 0 ≡ 0
@@ -112,6 +127,13 @@ shown_none b = refl
 
 pub shown_more : (b : List Order) (k : ℕ) → shown_in b (k + 1) ≡ beside (at b k) (shown_in b k)
 shown_more b k = rw (tops_more Buy (λ j. shown Buy (at b j)) k, tops_more Sell (λ j. shown Sell (at b j)) k) refl
+
+-- the best of the first n places, as a fold
+pub shown_fold : (b : List Order) (n : ℕ) → n ≤ length b → fold (λ r o. beside o r) (record { bid = 0; offer = 0 }) (take n b) ≡ shown_in b n
+shown_fold b n h = folded (λ r o. beside o r) (record { bid = 0; offer = 0 }) b free (shown_in b) (shown_none b) (shown_more b) n h
+
+pub tops_fold : (s : Side) (b : List Order) (n : ℕ) → n ≤ length b → fold (λ x o. top s (shown s o) x) 0 (take n b) ≡ tops s (λ j. shown s (at b j)) n
+tops_fold s b n h = folded (λ x o. top s (shown s o) x) 0 b free (tops s (λ j. shown s (at b j))) (tops_none s _) (tops_more s _) n h
 
 pub shown_all : (b : List Order) (n m : ℕ) → n ≤ m → FreeFrom n b → shown_in b m ≡ shown_in b n
 shown_all b n m h f = rw (tops_all Buy (λ j. shown Buy (at b j)) n m h (λ k l. ap (shown Buy) (f k l)), tops_all Sell (λ j. shown Sell (at b j)) n m h (λ k l. ap (shown Sell) (f k l))) refl

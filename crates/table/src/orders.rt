@@ -18,3 +18,4 @@ pub struct Orders {
 mod edits;
 pub mod place;
 mod scans;
+mod search;

@@ -1,6 +1,6 @@
 // The two sides: each rule is told once, for an order of a side.
 ghost use Rattle.std.specs.Prelude.{◌≡◌};
-ghost use Rattle.rules.specs.Sides.{ok, past, same_side, top, facing};
+ghost use Rattle.rules.specs.Sides.{ok, past, top, facing};
 ghost use Rattle.table.specs.Away.{backed};
 
 use rules::Bests;
@@ -31,15 +31,6 @@ pub fn beyond(side: Side, bound: u32, price: u32) -> bool
     match side {
         Side::Buy => bound < price,
         Side::Sell => price < bound,
-    }
-}
-
-pub fn same(side: Side, other: Side) -> bool
-    ensures { result ≡ same_side side other }
-{
-    match (side, other) {
-        (Side::Buy, Side::Buy) | (Side::Sell, Side::Sell) => true,
-        (Side::Buy, Side::Sell) | (Side::Sell, Side::Buy) => false,
     }
 }
 

@@ -56,6 +56,6 @@ impl<'a, T: Copy> AppendList<'a, T> {
     pub fn as_slice(&self) -> &[T]
         ensures { result.now ≡ contents self.now }
     {
-        &self.slots[0..self.len]
+        &self.slots[..self.len]
     }
 }

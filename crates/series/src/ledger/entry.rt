@@ -1,5 +1,5 @@
 // The rows that ask whether an order can be entered.
-ghost use Rattle.std.specs.Prelude.{◌≡◌, ℕ, suc, ◌+◌, ◌<◌, ◌≤◌, Bool, [], length};
+ghost use Rattle.std.specs.Prelude.{◌≡◌, ℕ, suc, ◌+◌, ◌<◌, ◌≤◌, Bool, []};
 ghost use Rattle.records.specs.Contents.{used, capacity};
 ghost use Rattle.table.specs.Away.{On};
 ghost use Rattle.book.specs.Passing.{terms_of};
@@ -97,14 +97,13 @@ impl Ledger {
         place: usize,
         routable: bool,
         away: Away,
-        quotes: &[Quote],
+        quotes: &[Quote; 15],
         reports: &mut AppendList<'_, Report>,
         slips: &mut AppendList<'_, Slip>,
     )
         requires ladder { (R : ℕ → Bool) × On R away }
         requires place { place < 64 }
         requires arrivals { (state [] self.old).arrivals < 1000000 }
-        requires quotes { length quotes.now ≡ 15 }
         requires reports { used reports.old + 128 ≤ capacity reports.old }
         requires slips { used slips.old + 15 ≤ capacity slips.old }
         ensures { (R : ℕ → Bool) → On R away → Admitted (enter away.best R (routing routable quotes.now away.best (state [] self.old).numbered) place (suc (state [] self.old).arrivals) (terms_of passed) (state [] self.old).orders) id (state [] self.old) (state [] self.new) reports.old reports.new slips.old slips.new }

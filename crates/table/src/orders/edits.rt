@@ -46,21 +46,15 @@ impl Orders {
         self.extent = self.extent.max(i + 1);
     }
 
-    // The last place of the extent holds no order.
-    fn ends_free(&self) -> bool
-        ensures some { result ≡ true → 0 < self.now.extent }
-        ensures free { result ≡ true → live (at (orders_in self.now) (self.now.extent - 1)) ≡ false }
-    {
-        0 < self.extent && !rests(&self.places[self.extent - 1])
-    }
-
     // Leaves the free places at its end out of the extent.
     fn draw_in(&mut self)
         ensures { orders_in self.new ≡ orders_in self.old }
     {
-        while self.ends_free() {
-            self.extent -= 1;
-        }
+        self.extent = self
+            .used()
+            .iter()
+            .rposition(|order| rests(order))
+            .map_or(0, |i| i + 1);
     }
 
     pub fn clear(&mut self, i: usize)
@@ -100,6 +94,8 @@ impl Orders {
             bid: 0,
             offer: u32::MAX,
         };
+        // By its index: the check lends no part of a field under an invariant to `iter_mut`, and a function over the whole
+        // array would need this contract once more.
         for i in 0..self.extent {
             let order = clamp(&mut self.places[i], away);
             reach = widened(&order, reach);

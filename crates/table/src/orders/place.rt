@@ -7,7 +7,7 @@ ghost use Rattle.rules.specs.States.{named};
 ghost use Rattle.table.specs.Away.{clamped, clamped_as};
 ghost use Rattle.table.specs.Reach.{beside, widened};
 
-use crate::sides::{Away, behind, better, beyond, met, same, within};
+use crate::sides::{Away, behind, better, beyond, met, within};
 use rules::{Bests, Order, Terms};
 use values::terms::{Kind, Side};
 
@@ -42,7 +42,7 @@ pub fn rests(o: &Order) -> bool
 pub fn faces(side: Side, o: &Order) -> bool
     ensures { result ≡ contra side o.now }
 {
-    rests(o) && !same(side, o.terms.side)
+    rests(o) && side != o.terms.side
 }
 
 // A taker of this side trades with x before y.
@@ -69,7 +69,7 @@ pub fn has_id(id: u32, o: &Order) -> bool
 pub fn displays(side: Side, o: &Order) -> u32
     ensures { result ≡ shown side o.now }
 {
-    if rests(o) && same(side, o.terms.side) {
+    if rests(o) && side == o.terms.side {
         o.displayed
     } else {
         0
@@ -86,11 +86,11 @@ pub fn beside(o: &Order, best: Bests) -> Bests
     match o.terms.side {
         Side::Buy => Bests {
             bid: better(Side::Buy, o.displayed, best.bid),
-            offer: best.offer,
+            ..best
         },
         Side::Sell => Bests {
-            bid: best.bid,
             offer: better(Side::Sell, o.displayed, best.offer),
+            ..best
         },
     }
 }
@@ -105,11 +105,11 @@ pub fn widened(o: &Order, reach: Bests) -> Bests
     match o.terms.side {
         Side::Buy => Bests {
             bid: reach.bid.max(o.booked),
-            offer: reach.offer,
+            ..reach
         },
         Side::Sell => Bests {
-            bid: reach.bid,
             offer: reach.offer.min(o.booked),
+            ..reach
         },
     }
 }

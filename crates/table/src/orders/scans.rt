@@ -1,5 +1,5 @@
 // Searches through the places.
-ghost use Rattle.std.specs.Prelude.{◌≡◌, ℕ, ◌<◌, ◌≤◌, true, length, IfSome};
+ghost use Rattle.std.specs.Prelude.{◌≡◌, ℕ, ◌<◌, ◌≤◌, true, length, take, IfSome};
 ghost use Rattle.rules.specs.Book.{at, pick, spot, taken, touch, here};
 ghost use Rattle.rules.specs.Trading.{contra, prefer};
 ghost use Rattle.rules.specs.Quoting.{later, earlier};
@@ -8,9 +8,10 @@ ghost use Rattle.table.specs.Places.{FreeFrom, Inside, Vacant, ahead};
 ghost use Rattle.table.specs.Tables.{orders_in};
 
 use super::Orders;
-use super::place::{beside, comes_after, displays, faces, goes_before, has_id, rests};
+use super::place::{beside, displays, has_id, rests};
+use super::search::{Later, Makers, Search};
 use crate::sides::better;
-use rules::Bests;
+use rules::{Bests, Order};
 use values::terms::Side;
 
 impl Orders {
@@ -22,17 +23,43 @@ impl Orders {
         self.extent
     }
 
-    fn leads(&self, side: Side, i: usize, best: Option<usize>) -> bool
-        requires { (i < 64) × (Inside best) }
-        ensures { result ≡ ahead (contra side) (prefer side) (orders_in self.now) i best }
+    // The places up to the extent; no order rests in another.
+    pub(super) fn used(&self) -> &[Order]
+        ensures { result.now ≡ take self.now.extent (orders_in self.now) }
     {
-        if !faces(side, &self.places[i]) {
+        &self.places[..self.extent]
+    }
+
+    // The place k is taken before the place that the search holds.
+    fn leads<S: Search>(&self, search: &S, k: usize, held: Option<usize>) -> bool
+        requires { (k < 64) × (Inside held) }
+        ensures { result ≡ ahead (S.takes search.now) (S.prefers search.now) (orders_in self.now) k held }
+    {
+        if !search.takes(&self.places[k]) {
             return false;
         }
-        match best {
+        match held {
             None => true,
-            Some(j) => goes_before(side, &self.places[i], &self.places[j]),
+            Some(i) => search.prefers(&self.places[k], &self.places[i]),
         }
+    }
+
+    // The place of the order that goes before the others that the search takes.
+    fn foremost<S: Search>(&self, search: &S) -> Option<usize>
+        ensures picks { result ≡ pick (S.takes search.now) (S.prefers search.now) (orders_in self.now) (length (orders_in self.now)) }
+        ensures inside { Inside result }
+        ensures takes { IfSome result (λ i. S.takes search.now (at (orders_in self.now) i) ≡ true) }
+    {
+        let mut held: Option<usize> = None;
+        for (i, order) in self.used().iter().enumerate() {
+            if self.leads(search, i, held) {
+                if search.ends(order) {
+                    return Some(i);
+                }
+                held = Some(i);
+            }
+        }
+        held
     }
 
     // The place of the order that a taker of this side meets next: the best booked price, then the first to arrive.
@@ -41,44 +68,16 @@ impl Orders {
         ensures inside { Inside result }
         ensures faces { IfSome result (λ i. contra side (at (orders_in self.now) i) ≡ true) }
     {
-        let mut best: Option<usize> = None;
-        for i in 0..self.extent {
-            if self.leads(side, i, best) {
-                best = Some(i);
-            }
-        }
-        best
+        self.foremost(&Makers { taker: side })
     }
 
-    fn comes_first(&self, arrival: u32, i: usize, next: Option<usize>) -> bool
-        requires { (i < 64) × (Inside next) }
-        ensures { result ≡ ahead (later arrival) earlier (orders_in self.now) i next }
-    {
-        if !comes_after(arrival, &self.places[i]) {
-            return false;
-        }
-        match next {
-            None => true,
-            Some(j) => self.places[i].arrival < self.places[j].arrival,
-        }
-    }
-
-    // The place of the order that arrived next after this number. None can have arrived sooner than one number later.
+    // The place of the order that arrived next after this number.
     pub fn next_after(&self, arrival: u32) -> Option<usize>
         ensures next { result ≡ pick (later arrival) earlier (orders_in self.now) (length (orders_in self.now)) }
         ensures inside { Inside result }
         ensures later { IfSome result (λ i. later arrival (at (orders_in self.now) i) ≡ true) }
     {
-        let mut next: Option<usize> = None;
-        for i in 0..self.extent {
-            if self.comes_first(arrival, i, next) {
-                if self.places[i].arrival - arrival == 1 {
-                    return Some(i);
-                }
-                next = Some(i);
-            }
-        }
-        next
+        self.foremost(&Later { arrival })
     }
 
     // The place of the resting order with this id.
@@ -86,62 +85,39 @@ impl Orders {
         ensures found { result ≡ spot (named id) (orders_in self.now) }
         ensures inside { Inside result }
     {
-        for i in 0..self.extent {
-            if has_id(id, &self.places[i]) {
-                return Some(i);
-            }
-        }
-        None
+        self.used().iter().position(|order| has_id(id, order))
     }
 
     // A place that holds no order.
     pub fn vacancy(&self) -> Option<usize>
         ensures { Vacant (orders_in self.now) result }
     {
-        for i in 0..self.extent {
-            if !rests(&self.places[i]) {
-                return Some(i);
-            }
-        }
-        if self.extent < 64 {
-            Some(self.extent)
-        } else {
-            None
-        }
+        self.places.iter().position(|order| !rests(order))
     }
 
     // How many orders rest.
     pub fn count(&self) -> u32
         ensures { result ≡ taken (orders_in self.now) }
     {
-        let mut n: u32 = 0;
-        for i in 0..64 {
-            if rests(&self.places[i]) {
-                n += 1;
-            }
-        }
-        n
+        self.places.iter().filter(|order| rests(order)).count() as u32
     }
 
     // The best displayed price of a side, 0 where none is displayed.
     pub fn touch(&self, side: Side) -> u32
         ensures { result ≡ touch side (orders_in self.now) }
     {
-        let mut best = 0;
-        for i in 0..64 {
-            best = better(side, displays(side, &self.places[i]), best);
-        }
-        best
+        self.places
+            .iter()
+            .fold(0, |best, order| better(side, displays(side, order), best))
     }
 
     // The best displayed bid and offer; 0 where none is displayed.
     pub fn best(&self) -> Bests
         ensures { result ≡ here (orders_in self.now) }
     {
-        let mut best = Bests { bid: 0, offer: 0 };
-        for i in 0..self.extent {
-            best = beside(&self.places[i], best);
-        }
-        best
+        let none = Bests { bid: 0, offer: 0 };
+        self.used()
+            .iter()
+            .fold(none, |best, order| beside(order, best))
     }
 }

@@ -1,5 +1,5 @@
 // Slips are filed, looked up and settled.
-ghost use Rattle.std.specs.Prelude.{◌≡◌, ℕ, ◌-◌, ◌<◌, true, false, length, replicate, slice_set};
+ghost use Rattle.std.specs.Prelude.{◌≡◌, ℕ, ◌<◌, length, replicate, slice_set, take};
 ghost use Rattle.rules.specs.Book.{found};
 ghost use Rattle.rules.specs.Slips.{no_sent, sent_at, out, vacant, carries, is_slip, seat, vacancies, file, filed};
 ghost use Rattle.table.specs.Places.{Inside};
@@ -59,6 +59,13 @@ impl SlipsOut {
         }
     }
 
+    // The places up to the extent; no slip is out in another.
+    fn used(&self) -> &[Sent]
+        ensures { result.now ≡ take self.now.extent (slips_in self.now) }
+    {
+        &self.places[..self.extent]
+    }
+
     // The slip at a place; searches give places.
     pub fn slip(&self, i: usize) -> Slip
         requires { i < 64 }
@@ -72,52 +79,32 @@ impl SlipsOut {
         ensures found { result ≡ seat (is_slip number) (slips_in self.now) (length (slips_in self.now)) }
         ensures inside { Inside result }
     {
-        for i in 0..self.extent {
-            if has_number(number, &self.places[i]) {
-                return Some(i);
-            }
-        }
-        None
+        self.used().iter().position(|sent| has_number(number, sent))
     }
 
     // Whether a slip of the order with this id is out.
     pub fn carries(&self, id: u32) -> bool
         ensures { result ≡ found (seat (carries id) (slips_in self.now) (length (slips_in self.now))) }
     {
-        for i in 0..self.extent {
-            if is_of(id, &self.places[i]) {
-                return true;
-            }
-        }
-        false
+        self.used().iter().any(|sent| is_of(id, sent))
     }
 
     // How many more slips can be out.
     pub fn vacancies(&self) -> u32
         ensures { result ≡ vacancies (slips_in self.now) }
     {
-        let mut n: u32 = 0;
-        for i in 0..64 {
-            if is_vacant(&self.places[i]) {
-                n += 1;
-            }
-        }
-        n
+        self.places.iter().filter(|sent| is_vacant(sent)).count() as u32
     }
 
     fn vacancy(&self) -> Option<usize>
         ensures found { result ≡ seat vacant (slips_in self.now) (length (slips_in self.now)) }
         ensures inside { Inside result }
     {
-        for i in 0..64 {
-            if is_vacant(&self.places[i]) {
-                return Some(i);
-            }
-        }
-        None
+        self.places.iter().position(|sent| is_vacant(sent))
     }
 
     // A slip of the order with this id goes out; where 64 are out already it is not filed.
+    #[tactic(auto, unfolding(rules::specs::Slips::file))]
     pub fn file(&mut self, id: u32, slip: Slip)
         ensures { slips_in self.new ≡ file id slip (slips_in self.old) }
     {
@@ -131,26 +118,20 @@ impl SlipsOut {
     pub fn file_all(&mut self, id: u32, slips: &[Slip])
         ensures { slips_in self.new ≡ filed id slips.now (slips_in self.old) }
     {
-        for x in 0..slips.len() {
-            self.file(id, slips[x]);
+        for slip in slips {
+            self.file(id, *slip);
         }
-    }
-
-    // The last place of the extent holds no slip that is out.
-    fn ends_vacant(&self) -> bool
-        ensures some { result ≡ true → 0 < self.now.extent }
-        ensures vacant { result ≡ true → out (sent_at (slips_in self.now) (self.now.extent - 1)) ≡ false }
-    {
-        0 < self.extent && !is_out(&self.places[self.extent - 1])
     }
 
     // Leaves the vacant places at its end out of the extent.
     fn draw_in(&mut self)
         ensures { slips_in self.new ≡ slips_in self.old }
     {
-        while self.ends_vacant() {
-            self.extent -= 1;
-        }
+        self.extent = self
+            .used()
+            .iter()
+            .rposition(|sent| is_out(sent))
+            .map_or(0, |i| i + 1);
     }
 
     // The slip at a place is settled, and its place is free.

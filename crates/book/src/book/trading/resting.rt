@@ -1,7 +1,7 @@
 // Resting: the rest of an order is booked, or cancelled.
 ghost use Rattle.std.specs.Prelude.{◌≡◌, ℕ, ◌<◌, ◌≤◌, ◌&&◌};
 ghost use Rattle.rules.specs.Resting.{cause_of};
-ghost use Rattle.rules.specs.Book.{Live};
+ghost use Rattle.rules.specs.Book.{Live, prices_of};
 ghost use Rattle.records.specs.Contents.{used, capacity, Grown};
 ghost use Rattle.book.specs.Books.{orders_of};
 ghost use Rattle.book.specs.Rests.{rest_as, rest_on, settle_on, booked_at, Came};
@@ -12,6 +12,16 @@ use rules::{Order, Prices, Terms};
 use table::sides::{Away, behind, met, within};
 use values::reports::{Cause, Report};
 use values::terms::Side;
+
+// Where an order rests.
+fn prices_of(order: &Order) -> Prices
+    ensures { result ≡ prices_of order.now }
+{
+    Prices {
+        booked: order.booked,
+        displayed: order.displayed,
+    }
+}
 
 // Where the rest of an order of this side rests, if it does.
 fn rest_as(side: Side, away: Away, terms: &Terms) -> Option<Prices>
@@ -78,7 +88,7 @@ impl Book {
                 ..*order
             },
         );
-        if before.booked != booked || before.displayed != displayed {
+        if prices_of(before) != prices {
             reports.push(Report::Booked {
                 arrival: order.arrival,
                 booked,

@@ -11,7 +11,7 @@ use Rattle.book.proofs.Sweep.{starts, goes_on, ends, runs_out}
 use Rattle.book.proofs.book.Book.turns.Goals as goal
 
 pub loop-had-init : goal.loop-had-init
-loop-had-init c = (search rules, search rules, c.requires.1.1, λ R on. ([], grown_none _, starts _ R _ _ 0 c.args.self.now.orders.full (search rules)))
+loop-had-init c = (search rules, search rules, c.requires.1, λ R on. ([], grown_none _, starts _ R _ _ 0 c.args.self.now.orders.full (search rules)))
 
 pub returns-in-None : goal.returns-in-None
 returns-in-None c R on =

@@ -46,11 +46,11 @@ impl Book {
         passed: Passed,
         entry: Entry,
         away: Away,
-        quotes: &[Quote],
+        quotes: &[Quote; 15],
         reports: &mut AppendList<'_, Report>,
         slips: &mut AppendList<'_, Slip>,
     )
-        requires { (entry.place < 64) × ((entry.numbered ≤ 15000000) × ((length quotes.now ≡ 15) × ((used reports.old + 128 ≤ capacity reports.old) × (used slips.old + 15 ≤ capacity slips.old)))) }
+        requires { (entry.place < 64) × ((entry.numbered ≤ 15000000) × ((used reports.old + 128 ≤ capacity reports.old) × (used slips.old + 15 ≤ capacity slips.old))) }
         ensures { (R : ℕ → Bool) → On R away → Dealt (enter away.best R (routing entry.routable quotes.now away.best entry.numbered) entry.place entry.arrival (terms_of passed) (orders_of self.old)) (orders_of self.new) reports.old reports.new slips.old slips.new }
     {
         let terms = terms_of(passed);

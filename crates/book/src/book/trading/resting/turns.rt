@@ -13,11 +13,11 @@ ghost use Rattle.book.specs.Books.{orders_of};
 ghost use Rattle.book.specs.Rests.{Came, turned};
 ghost use Rattle.book.specs.Idle.{Bounds, stays_as, idle_as, idle_on, Due, NextDue};
 
-use super::rest_as;
+use super::{prices_of, rest_as};
 use crate::book::Book;
 use crate::caps::suits;
 use records::AppendList;
-use rules::{Bests, Order, Prices};
+use rules::{Bests, Order};
 use table::orders::place::{comes_after, widened};
 use table::sides::{Away, beyond, met};
 use values::reports::Report;
@@ -27,19 +27,14 @@ use values::terms::Side;
 fn stays_as(side: Side, away: Away, order: &Order) -> bool
     ensures { result ≡ stays_as side away order.now }
 {
-    match rest_as(side, away, &order.terms) {
-        Some(Prices { booked, displayed }) => {
-            booked == order.booked && displayed == order.displayed
-        }
-        None => false,
-    }
+    rest_as(side, away, &order.terms) == Some(prices_of(order))
 }
 
 // No contra order is booked at a price as good as its own, and it stays where it rests, as before the call.
 fn is_idle_as(side: Side, away: Away, reach: Bests, before: &Order, order: &Order) -> bool
     ensures { result ≡ idle_as side away reach before.now order.now }
 {
-    (before.booked == order.booked && before.displayed == order.displayed)
+    prices_of(before) == prices_of(order)
         && (beyond(side, order.booked, met(reach, side)) && stays_as(side, away, order))
 }
 
@@ -63,8 +58,7 @@ fn is_due(last: u32, due: u32, away: Away, reach: Bests, before: &Order, order: 
 impl Book {
     // The smallest arrival number after `last` of an order that may have something to do in its turn; the largest number
     // of all where there is none.
-    fn first_due(&self, last: u32, away: Away, reach: Bests, before: &[Order]) -> u32
-        requires { length before.now ≡ 64 }
+    fn first_due(&self, last: u32, away: Away, reach: Bests, before: &[Order; 64]) -> u32
         ensures { Due away reach last before.now (orders_of self.now) result }
     {
         let mut due = u32::MAX;
@@ -79,8 +73,7 @@ impl Book {
 
     // The place of the next order that may have something to do in its turn. Those before it would stay as they are, so
     // that they need no turn.
-    fn next_due(&self, last: u32, away: Away, reach: Bests, before: &[Order]) -> Option<usize>
-        requires { length before.now ≡ 64 }
+    fn next_due(&self, last: u32, away: Away, reach: Bests, before: &[Order; 64]) -> Option<usize>
         ensures next { NextDue away reach last before.now (orders_of self.now) result }
         ensures inside { Inside result }
     {
@@ -134,10 +127,10 @@ impl Book {
         &mut self,
         away: Away,
         mut reach: Bests,
-        before: &[Order],
+        before: &[Order; 64],
         reports: &mut AppendList<'_, Report>,
     )
-        requires { (length before.now ≡ 64) × ((used reports.old + taken (orders_of self.old) + 64 ≤ capacity reports.old) × (Bounds reach (orders_of self.old))) }
+        requires { (used reports.old + taken (orders_of self.old) + 64 ≤ capacity reports.old) × (Bounds reach (orders_of self.old)) }
         ensures { (R : ℕ → Bool) → On R away → Came (turns (length (orders_of self.old)) away.best R 0 before.now (orders_of self.old)) (orders_of self.new) reports.old reports.new }
     {
         let mut last = 0;

@@ -44,7 +44,6 @@ enter-requires g c =
       ladder = (g.L.Ladder.rung c.args.self.now.ladder, c.away_best-away.ensures.rungs);
       place = c.in_ok-place.ensures.1;
       arrivals = fits.2;
-      quotes = ap length c.quotes_of-quotes.ensures ∙ g.B.Board.fifteen c.args.self.now.board;
       reports = omega (arith, fits.0, c.room.ensures);
       slips = omega (arith, fits.1, c.room-2.ensures);
     }

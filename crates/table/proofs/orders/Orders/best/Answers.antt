@@ -1,19 +1,14 @@
-use Rattle.std.proofs.Common.{◌≡◌, sym, ap, ◌∙◌, rules}
+use Rattle.std.proofs.Common.{◌≡◌, length, take, ◌∙◌, sym, rules, tests}
+use Rattle.std.proofs.lemmas.Iterator.{YieldsList-from_slice}
+use Rattle.std.proofs.lemmas.Iterator.Consumers.{fold_from_yields_List}
+use Rattle.std.specs.List.{fold}
 use Rattle.table.specs.Reach.{beside}
-use Rattle.rules.specs.Book.{at}
-use Rattle.table.proofs.Picks.{shown_in, shown_none, shown_more, shown_all}
+use Rattle.table.proofs.Picks.{shown_fold, shown_all}
 use Rattle.table.proofs.orders.Orders.best.Goals as goal
-
-pub loop-i-init : goal.loop-i-init
-loop-i-init c = sym (shown_none c.args.self.now.places)
-
-pub loop-i-preserved : goal.loop-i-preserved
-loop-i-preserved c =
-    let b = c.args.self.now.places in
-    c.beside-best.ensures ∙ ap (beside (at b c.loop-i.i)) c.loop-i.invariant ∙ sym (shown_more b c.loop-i.i)
 
 pub returns : goal.returns
 returns c =
     let b = c.args.self.now.places in
-    let end : c.loop-i.i ≡ c.args.self.now.extent = search rules in
-    c.loop-i.invariant ∙ ap (shown_in b) end ∙ sym (shown_all b c.args.self.now.extent _ (search rules) c.args.self.now.beyond)
+    let n = c.args.self.now.extent in
+    let is : c.fold.result ≡ fold (λ r o. beside o r) (record { bid = 0; offer = 0 }) (take n b) = fold_from_yields_List _ (λ r o. beside o r) (record { bid = 0; offer = 0 }) c.fold.result c.fold.ensures.ran (YieldsList-from_slice (take n b) cc) (λ a x r q k. search (rules, tests)) in
+    is ∙ shown_fold b n (search rules) ∙ sym (shown_all b n (length b) (search rules) c.args.self.now.beyond)
