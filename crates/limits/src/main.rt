@@ -17,16 +17,6 @@ use values::reports::{Report, Slip};
 use values::terms::Letter;
 use values::texts::{put_fault, put_reports, put_slips};
 
-const REPORT: Report = Report::New { arrival: 0, id: 0 };
-
-const SLIP: Slip = Slip {
-    number: 0,
-    arrival: 0,
-    exchange: 0,
-    price: 0,
-    size: 0,
-};
-
 // A customer's limit buy of one contract at 100.
 fn buy(id: u32) -> Call {
     Call::Order(OrderFields {
@@ -64,8 +54,8 @@ fn ask<L: Ladder + Drop, B: Board + Drop>(
     let places = room.reports.min(128);
     let slip_places = room.slips.min(15);
     writeln!(out, "{call} with room for {places} and {slip_places}")?;
-    let mut reports = [REPORT; 128];
-    let mut slips = [SLIP; 15];
+    let mut reports = [Report::BLANK; 128];
+    let mut slips = [Slip::BLANK; 15];
     let mut reported = AppendList::new(&mut reports[0..places]);
     let mut sent = AppendList::new(&mut slips[0..slip_places]);
     match series.call(call, &mut reported, &mut sent) {
@@ -105,35 +95,32 @@ fn put_rooms(out: &mut String) -> Result<(), AllocError> {
     ask(out, &mut series, buy(7), FULL)
 }
 
-// One call whose answer is not written; whether it was accepted.
-fn accepts<L: Ladder + Drop, B: Board + Drop>(series: &mut Series<L, B>, call: Call) -> bool {
-    let mut reports = [REPORT; 128];
-    let mut slips = [SLIP; 15];
+// One call with all the room that it may want, whose answer is not written.
+fn carry_out<L: Ladder + Drop, B: Board + Drop>(
+    series: &mut Series<L, B>,
+    call: Call,
+) -> Result<(), Fault> {
+    let mut reports = [Report::BLANK; 128];
+    let mut slips = [Slip::BLANK; 15];
     let mut reported = AppendList::new(&mut reports);
     let mut sent = AppendList::new(&mut slips);
-    series.call(call, &mut reported, &mut sent).is_ok()
+    series.call(call, &mut reported, &mut sent)
 }
 
-// Enters and cancels an order so many times; how many were accepted.
 fn enter_and_cancel<L: Ladder + Drop, B: Board + Drop>(
     series: &mut Series<L, B>,
-    times: u32,
-) -> u32 {
-    let mut accepted: u32 = 0;
-    for _i in 0..times {
-        if accepts(series, buy(7)) {
-            accepted = accepted.saturating_add(1);
-        }
-        accepts(series, Call::Cancel { id: 7 });
-    }
-    accepted
+) -> Result<(), Fault> {
+    carry_out(series, buy(7))?;
+    carry_out(series, Call::Cancel { id: 7 })
 }
 
 // The millionth order is accepted, and no later one.
 fn put_arrivals(out: &mut String) -> Result<(), AllocError> {
     let mut series = Series::new(AnyLadder::Cents, TableBoard::new(), false);
     ask(out, &mut series, Call::Open, FULL)?;
-    let accepted = enter_and_cancel(&mut series, 999_999);
+    let accepted = (0..999_999)
+        .filter(|_| enter_and_cancel(&mut series).is_ok())
+        .count();
     writeln!(out, "accepted {accepted}")?;
     ask(out, &mut series, buy(7), FULL)?;
     ask(out, &mut series, buy(8), FULL)
@@ -151,12 +138,7 @@ fn put_memory(out: &mut String, length: usize) -> Result<(), AllocError> {
     let mut memory = [7u8; 300];
     let end = length.min(300);
     put_board(out, &mut memory[0..end])?;
-    let mut written: u32 = 0;
-    for b in &memory {
-        if *b != 7 {
-            written = written.saturating_add(1);
-        }
-    }
+    let written = memory.iter().filter(|b| **b != 7).count();
     writeln!(out, "of {end} bytes {written} are written")
 }
 

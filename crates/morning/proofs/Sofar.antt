@@ -11,7 +11,8 @@ use Rattle.morning.specs.declared.taking.Taken.{Taken}
 use Rattle.morning.specs.declared.taking.Taken.TheVariants.{Told}
 use Rattle.morning.specs.declared.tops.Tops.{Tops}
 use Rattle.morning.specs.Tops.{Top}
-use Rattle.morning.specs.Mornings.{started, taken, after}
+use Rattle.opening.specs.Opening.{started}
+use Rattle.morning.specs.Mornings.{taken, after}
 use Rattle.morning.specs.Words.{quote_line, top_line, agreement, dump_from}
 use Rattle.morning.specs.Answers.{Answer, Lines, Over, OverBytes, Begun, Told as ToldBy, Short, Morning}
 

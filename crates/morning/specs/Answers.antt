@@ -18,7 +18,8 @@ use Rattle.morning.specs.declared.taking.Taken.{Taken}
 use Rattle.morning.specs.declared.taking.Taken.TheVariants as taking
 use Rattle.morning.specs.declared.tops.Tops.{Tops}
 use Rattle.morning.specs.Tops.{Top}
-use Rattle.morning.specs.Mornings.{started, taken, after}
+use Rattle.opening.specs.Opening.{started}
+use Rattle.morning.specs.Mornings.{taken, after}
 use Rattle.morning.specs.Words.{quote_line, top_line, passed_line, agreement, dump_from}
 
 -- the exchange's quote and the top of the away market, as they now are; that a call is passed over; or the fault

@@ -1,5 +1,4 @@
 -- What a line after the header makes of the away market. Assumes nothing.
---     started bytes       the settings that a first line gives, or its fault
 --     taken R bytes       a quote to be told, a well-formed call that is passed over, or the line's fault
 --     after qs r          the quotes after a line was taken so: only a quote changes them
 use Rattle.std.specs.Prelude.{ℕ, Bool, List, Ok, Err, Result}
@@ -7,28 +6,15 @@ use Rattle.market.specs.declared.board.Quote.{Quote}
 use Rattle.market.specs.Quotes.{told}
 use Rattle.values.specs.declared.calls.Call.{Call}
 use Rattle.values.specs.declared.calls.Call.TheVariants as call
-use Rattle.values.specs.declared.calls.Header.{Header}
 use Rattle.values.specs.declared.faults.Fault.{Fault}
 use Rattle.values.specs.declared.faults.LineFault.{LineFault}
 use Rattle.values.specs.declared.faults.CheckFault.{CheckFault}
 use Rattle.values.specs.Codes.{of_line, of_check}
 use Rattle.checks.specs.declared.checked.CheckedCall.{CheckedCall}
-use Rattle.checks.specs.declared.checked.Settings.{Settings}
-use Rattle.checks.specs.Checked.{checked_away, checked_header}
-use Rattle.lines.specs.Calls.{read_call_of, read_header_of}
+use Rattle.checks.specs.Checked.{checked_away}
+use Rattle.lines.specs.Calls.{read_call_of}
 use Rattle.morning.specs.declared.taking.Taken.{Taken}
 use Rattle.morning.specs.declared.taking.Taken.TheVariants as taking
-
-abbrev pub settings_or : Result Settings CheckFault → Result Settings Fault
-settings_or (Ok s) = Ok s
-settings_or (Err f) = Err (of_check f)
-
-abbrev pub header_or : Result Header LineFault → Result Settings Fault
-header_or (Ok h) = settings_or (checked_header h)
-header_or (Err f) = Err (of_line f)
-
-abbrev pub started : List ℕ → Result Settings Fault
-started bytes = header_or (read_header_of bytes)
 
 -- a quote whose fields fit is told
 abbrev pub quote_or : ℕ → Quote → Result CheckedCall CheckFault → Result Taken Fault

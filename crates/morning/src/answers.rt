@@ -5,7 +5,7 @@ ghost use Rattle.lines.specs.Inputs.{lines_of};
 ghost use Rattle.morning.specs.Mornings.{taken, after};
 ghost use Rattle.morning.specs.Answers.{Answer, Over, Morning};
 
-use super::taking::{Taken, start, take};
+use super::taking::{Taken, take};
 use super::text::{put_bytes, put_passed_over, put_quote, put_tops};
 use super::tops::top;
 use lines::records::{INPUT_LIMIT, Records};
@@ -14,11 +14,13 @@ use market::board::Board;
 use market::ladder::Ladder;
 use market::packed::PackedBoard;
 use market::table::TableBoard;
+use opening::start;
 use std::alloc::AllocError;
 use values::faults::{Fault, LineFault};
 use values::texts::put_fault;
 
 // A line's answer: the exchange's quote and the top of the away market, that it is passed over, or its fault.
+// What it is given is not a struct: the boards are lent from two places, and the rest goes to the calls below one by one.
 fn answer<L: Ladder, X: Board, Y: Board>(
     out: &mut String,
     ladder: &L,
@@ -30,16 +32,13 @@ fn answer<L: Ladder, X: Board, Y: Board>(
     ensures one { X.Board.quotes one.new ≡ after (X.Board.quotes one.old) (taken (L.Ladder.rung ladder.now) line.now) }
     ensures other { Y.Board.quotes other.new ≡ after (Y.Board.quotes other.old) (taken (L.Ladder.rung ladder.now) line.now) }
 {
-    let taken = match take(ladder, one, other, line) {
-        Ok(taken) => taken,
-        Err(fault) => return put_fault(out, fault),
-    };
-    match taken {
-        Taken::Told { exchange, .. } => {
+    match take(ladder, one, other, line) {
+        Ok(Taken::Told { exchange, .. }) => {
             put_quote(out, exchange, one.quote(exchange))?;
             put_tops(out, top(ladder, one))
         }
-        Taken::PassedOver(call) => put_passed_over(out, call),
+        Ok(Taken::PassedOver(call)) => put_passed_over(out, call),
+        Err(refusal) => put_fault(out, refusal),
     }
 }
 
@@ -48,12 +47,7 @@ fn agree<X: Board, Y: Board>(one: &X, other: &Y) -> bool
     ensures same { X.Board.quotes one.now ≡ Y.Board.quotes other.now → result ≡ true }
     ensures only { result ≡ true → X.Board.quotes one.now ≡ Y.Board.quotes other.now }
 {
-    for exchange in 1..16 {
-        if one.quote(exchange) != other.quote(exchange) {
-            return false;
-        }
-    }
-    true
+    (1..16).all(|exchange| one.quote(exchange) == other.quote(exchange))
 }
 
 // The lines after the header, told to a board of its own and to one over the host's memory.
@@ -61,20 +55,21 @@ fn answer_all(
     out: &mut String,
     ladder: &AnyLadder,
     memory: &mut [u8],
-    mut lines: Records,
+    lines: Records,
 ) -> Result<(), AllocError>
     ensures value { OnOk result ((b : List ℕ) × (string_bytes out.new ≡ string_bytes out.old ++ b) × Over (length memory.old) (rungs_of ladder.now) (lines_of lines.entry.rest.now) b) }
 {
     let mut table = TableBoard::new();
-    let mut packed = match PackedBoard::new(memory) {
-        Ok(board) => board,
-        Err(fault) => return put_fault(out, Fault::Board(fault)),
-    };
-    while let Some(line) = lines.next() {
-        answer(out, ladder, &mut table, &mut packed, line)?;
+    match PackedBoard::new(memory) {
+        Ok(mut packed) => {
+            for line in lines {
+                answer(out, ladder, &mut table, &mut packed, line)?;
+            }
+            let same = agree(&table, &packed);
+            writeln!(out, "both boards agree: {same}")
+        }
+        Err(fault) => put_fault(out, Fault::Board(fault)),
     }
-    let same = agree(&table, &packed);
-    writeln!(out, "both boards agree: {same}")
 }
 
 // Everything that is written for an input: nothing for none, one fault for too long a one or for a first line that is refused.

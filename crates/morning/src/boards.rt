@@ -8,6 +8,7 @@ use market::packed::PackedBoard;
 use market::table::TableBoard;
 
 // Tells one quote to both: who had the same quotes before has the same after.
+// Two boards, not a struct of both, which would ask of callers that they hold them in one place.
 pub fn tell_both<X: Board, Y: Board>(one: &mut X, other: &mut Y, exchange: u32, quote: Quote)
     ensures one { X.Board.quotes one.new ≡ told (X.Board.quotes one.old) exchange quote }
     ensures other { Y.Board.quotes other.new ≡ told (Y.Board.quotes other.old) exchange quote }
@@ -18,6 +19,7 @@ pub fn tell_both<X: Board, Y: Board>(one: &mut X, other: &mut Y, exchange: u32, 
 }
 
 // What a host that lends an array finds in it after one telling to a new board: the packed records, byte for byte.
+// The array is the host's: a board has no memory of its own.
 pub fn told_once(memory: &mut [u8; 240], exchange: u32, quote: Quote)
     ensures { memory.new ≡ packed (told (replicate 15 absent) exchange quote) }
 {

@@ -1,13 +1,13 @@
 // A morning's lines, one at a time, told to two boards.
 ghost use Rattle.std.specs.Prelude.{◌≡◌};
-ghost use Rattle.morning.specs.Mornings.{started, taken, after};
+ghost use Rattle.morning.specs.Mornings.{taken, after};
 
 use super::boards::tell_both;
-use checks::calls::{check_away, check_header};
-use checks::checked::Settings;
-use lines::calls::{read_call, read_header};
+use checks::calls::check_away;
+use lines::calls::read_call;
 use market::board::{Board, Quote};
 use market::ladder::Ladder;
+pub use opening::start;
 use values::calls::Call;
 use values::faults::Fault;
 
@@ -18,15 +18,8 @@ pub enum Taken {
     PassedOver(Call),
 }
 
-// The first line of a morning.
-pub fn start(line: &[u8]) -> Result<Settings, Fault>
-    ensures { result ≡ started line.now }
-{
-    let header = read_header(line)?;
-    Ok(check_header(header)?)
-}
-
 // Every later line; both boards change only by a quote that is read and fits.
+// Two boards, not a struct of both, which would ask of callers that they hold them in one place.
 pub fn take<L: Ladder, X: Board, Y: Board>(
     ladder: &L,
     one: &mut X,

@@ -120,13 +120,13 @@ fn put_byte(out: &mut String, place: usize, byte: u8) -> Result<(), AllocError>
 pub fn put_bytes(out: &mut String, bytes: &[u8]) -> Result<(), AllocError>
     ensures { OnOk result (string_bytes out.new ≡ string_bytes out.old ++ dump_from 0 bytes.now) }
 {
-    for i in 0..bytes.len() {
-        put_byte(out, i, bytes[i])?;
+    for (i, byte) in bytes.iter().enumerate() {
+        put_byte(out, i, *byte)?;
     }
     Ok(())
 }
 
-// A call that says nothing of the away market.
+// A call that says nothing of the away market. It is one line of one value, but its words stand where the others do.
 pub fn put_passed_over(out: &mut String, call: Call) -> Result<(), AllocError>
     ensures { OnOk result (string_bytes out.new ≡ string_bytes out.old ++ passed_line call) }
 {

@@ -19,6 +19,7 @@ pub struct Ask {
 }
 
 // One ask: lists over as much of the memory as it names, or all that there is.
+// Reports and slips, not a struct of both: the caller may lend them from two places, and a series takes a list of each.
 fn ask_one<L: Ladder + Drop, B: Board + Drop>(
     series: &mut Series<L, B>,
     ask: Ask,

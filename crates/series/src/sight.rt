@@ -9,6 +9,7 @@ ghost use Rattle.table.specs.Away.{On};
 use market::board::{Board, Quote};
 use market::ladder::{Ladder, down, up};
 use rules::Bests;
+use std::array;
 use table::sides::{Away, better};
 use values::terms::Side;
 
@@ -30,11 +31,7 @@ pub fn away_best<L: Ladder, B: Board>(ladder: &L, board: &B) -> Away
 pub fn quotes_of<B: Board>(board: &B) -> [Quote; 15]
     ensures { result ≡ B.Board.quotes board.now }
 {
-    let mut all = [Quote::ABSENT; 15];
-    for i in 0..15 {
-        all[i] = board.quote(i as u32 + 1);
-    }
-    all
+    array::from_fn(|i| board.quote(i as u32 + 1))
 }
 
 // The best of two markets together.
@@ -48,6 +45,7 @@ pub fn national(away: Bests, here: Bests) -> Bests
 }
 
 // So many rungs past the national best of the other side; none where no rungs are asked for, or that side is absent.
+// No limit is 0 and not a case of its own, as an absent price is in every line and in the book.
 pub fn protection<L: Ladder>(ladder: &L, side: Side, rungs: u32, best: u32) -> u32
     ensures { result ≡ protect (L.Ladder.rung ladder.now) side rungs best }
 {
@@ -60,6 +58,7 @@ pub fn protection<L: Ladder>(ladder: &L, side: Side, rungs: u32, best: u32) -> u
     }
 }
 
+// The lowest rung by the rules' word for it, where the ladder says only that it is a rung and that none lies below.
 pub fn lowest<L: Ladder>(ladder: &L) -> u32
     ensures { result ≡ bottom (L.Ladder.rung ladder.now) }
 {

@@ -81,15 +81,13 @@ impl Ledger {
         ensures { Placed (state [] self.now) order reports slips result }
     {
         self.early_row(order.id, reports, slips)?;
-        let place = match self.book.vacancy() {
-            Some(i) => i,
-            None => return Err(SeriesFault::BookFull),
-        };
+        let place = self.book.vacancy().ok_or(SeriesFault::BookFull)?;
         self.late_row(order.routable())?;
         Ok(place)
     }
 
     // The passed order is entered by way of the free place, and its slips go out.
+    // What it is given comes from the order, the board and the lists, and no two of these go together anywhere else.
     pub fn enter(
         &mut self,
         passed: Passed,

@@ -37,10 +37,7 @@ impl Ledger {
             return Err(SeriesFault::NotOpen);
         }
         report_row(room)?;
-        match self.book.find(id) {
-            Some(i) => Ok(i),
-            None => Err(SeriesFault::NotResting),
-        }
+        self.book.find(id).ok_or(SeriesFault::NotResting)
     }
 
     // The place of the slip that a reply names.
@@ -52,14 +49,10 @@ impl Ledger {
             return Err(SeriesFault::NotOpen);
         }
         report_row(room)?;
-        match self.sent.find(slip) {
-            None => Err(SeriesFault::SlipNotOut),
-            Some(i) => {
-                if self.sent.slip(i).size < filled {
-                    return Err(SeriesFault::FilledAboveSize);
-                }
-                Ok(i)
-            }
+        let i = self.sent.find(slip).ok_or(SeriesFault::SlipNotOut)?;
+        if self.sent.slip(i).size < filled {
+            return Err(SeriesFault::FilledAboveSize);
         }
+        Ok(i)
     }
 }

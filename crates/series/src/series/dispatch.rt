@@ -12,6 +12,7 @@ use values::faults::Fault;
 use values::reports::{Report, Slip};
 
 impl<L: Ladder + Drop, B: Board + Drop> Series<L, B> {
+    // A function of its own, so that the law, which follows from what came of the call, is proved once for every kind.
     fn by_kind(
         &mut self,
         call: Call,

@@ -1,4 +1,4 @@
-use Rattle.std.proofs.Common.{◌≡◌, length, string_bytes}
+use Rattle.std.proofs.Common.{◌≡◌, string_bytes}
 use Rattle.market.specs.Any.{rungs_of}
 use Rattle.market.specs.Packing.{unpacked}
 use Rattle.lines.specs.Inputs.{lines_of}
@@ -7,7 +7,4 @@ use Rattle.morning.proofs.answers.answer_all.Given as goal
 
 abbrev pub invariant-loop-line : goal.invariant-loop-line
 invariant-loop-line l =
-    (l.table.table ≡ unpacked l.packed.bytes.now) × Sofar (rungs_of l.ladder) (string_bytes l.initial.out) (lines_of l.initial.lines.rest.now) (string_bytes l.out) l.table.table (lines_of l.lines.rest.now)
-
-abbrev pub decreases-loop-line : goal.decreases-loop-line
-decreases-loop-line l = length l.lines.rest.now
+    (l.table.table ≡ unpacked l.packed.bytes.now) × Sofar (rungs_of l.ladder) (string_bytes l.initial.out) (lines_of l.initial.lines.rest.now) (string_bytes l.out) l.table.table (lines_of l.line-iterator.rest.now)
