@@ -66,6 +66,8 @@ fn cause(terms: &Terms) -> Cause
     }
 }
 
+// The place, its order before the call and its order now stay three arguments: each caller has them apart, so that a struct
+// of them would be made at each call only to be taken apart. So it is with the list of the reports, which is lent.
 impl Book {
     // The order rests in this place at these prices, which are reported where one is another than before.
     fn book_at(

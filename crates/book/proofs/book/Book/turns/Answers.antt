@@ -1,12 +1,14 @@
-use Rattle.std.proofs.Common.{[], ◌≡◌, ◌<◌, true, count_by, sym, ap, ◌∙◌, subst, rules, arith}
+use Rattle.std.proofs.Common.{[], ◌≡◌, ◌<◌, true, length, count_by, sym, refl, ap, ◌∙◌, subst, rules, arith}
 use Rattle.std.proofs.lemmas.List.Sums.{count_by-le-length}
 use Rattle.records.proofs.Growing.{grown_none, grown_more}
 use Rattle.trading_laws.proofs.Telling.{later_parts}
 use Rattle.rules.specs.Book.{at}
-use Rattle.rules.specs.Quoting.{later}
+use Rattle.rules.specs.Quoting.{later, turns}
+use Rattle.table.specs.Away.{On}
 use Rattle.table.specs.Reach.{widened}
 use Rattle.book.specs.Books.{orders_of}
 use Rattle.book.specs.Idle.{Bounds}
+use Rattle.book.specs.Rests.{Came}
 use Rattle.book.proofs.Idling.{idle_turn}
 use Rattle.book.proofs.Sweep.{waits_since, somebody_waits, starts, goes_on, ends}
 use Rattle.book.proofs.book.Book.turns.Goals as goal
@@ -14,7 +16,7 @@ use Rattle.book.proofs.book.Book.turns.Goals as goal
 pub loop-i-init : goal.loop-i-init
 loop-i-init c =
     let few = count_by-le-length (later 0) (orders_of c.args.self.now) in
-    (omega (arith, few, c.args.self.now.orders.full), search rules, c.requires.1, λ R on. ([], grown_none _, starts _ R _ _))
+    (omega (arith, few, c.args.self.now.orders.full), search rules, refl, c.requires.1, λ R on. ([], grown_none _, starts _ R _ _))
 
 pub turn-requires : goal.turn-requires
 turn-requires c =
@@ -24,7 +26,7 @@ turn-requires c =
     let due = c.in-Some.ensures.next in
     let waits : later last (at b i) ≡ true = waits_since last due.0 b i due.1 due.3 in
     let some = somebody_waits last b i waits in
-    (search rules, ((later_parts last (at b i) waits).0, (omega (arith, some, c.requires, c.loop-i.invariant.0, c.loop-i.invariant.1), c.loop-i.invariant.2)))
+    (search rules, ((later_parts last (at b i) waits).0, (omega (arith, some, c.requires, c.loop-i.invariant.0, c.loop-i.invariant.1), c.loop-i.invariant.3)))
 
 pub loop-i-preserved : goal.loop-i-preserved
 loop-i-preserved c =
@@ -38,12 +40,13 @@ loop-i-preserved c =
     in (
       omega (arith, less, its.spent, c.loop-i.invariant.0),
       its.room ∙ c.loop-i.invariant.1,
-      subst (λ x. Bounds x (orders_of c.turn.new.self)) (sym (c.widened-reach.ensures ∙ ap (λ o. widened o c.loop-i.reach) c.order.ensures)) its.reach,
+      c.loop-i.invariant.2,
+      subst (λ x. Bounds x (orders_of c.turn.new.self)) (sym (c.widened-market.ensures ∙ ap (λ o. widened o c.loop-i.market.reach) c.order.ensures)) its.reach,
       λ R on.
-          let inv = c.loop-i.invariant.3 R on in (
+          let inv = c.loop-i.invariant.4 R on in (
             _,
             grown_more _ _ _ _ _ inv.1 (its.turned R on).reported,
-            goes_on _ R c.args.before.now _ last due.0 b _ inv.0 i _ due.1 (λ j l up. idle_turn R (record { away = c.args.away; reach = c.loop-i.reach }) on c.args.before.now b c.loop-i.invariant.2 j (later_parts _ (at b j) l).0 (due.2 j l up)) due.3 (search rules) (its.turned R on).book inv.2,
+            goes_on _ R c.args.before.now _ last due.0 b _ inv.0 i _ due.1 (λ j l up. idle_turn R c.loop-i.market on c.args.before.now b c.loop-i.invariant.3 j (later_parts _ (at b j) l).0 (due.2 j l up)) due.3 (search rules) (its.turned R on).book inv.2,
           ),
     )
 
@@ -58,7 +61,12 @@ loop-i-smaller c =
 
 pub returns : goal.returns
 returns c R on =
-    let inv = c.loop-i.invariant.3 R on in
+    let same = c.loop-i.invariant.2 in
+    let here = subst (On R) (sym same) on in
+    let inv = c.loop-i.invariant.4 R here in
+    let old = c.args.before.now in
+    let start = orders_of c.args.self.now in
     let b = orders_of c.loop-i.self in
-    let end = ends _ R c.args.before.now _ _ b inv.0 (λ j l. idle_turn R (record { away = c.args.away; reach = c.loop-i.reach }) on c.args.before.now b c.loop-i.invariant.2 j (later_parts _ (at b j) l).0 (c.in_default.ensures.next j l)) inv.2 in
-    record { book = end.0; reported = rw end.1 at inv.1 }
+    let end = ends _ R old _ _ b inv.0 (λ j l. idle_turn R c.loop-i.market here old b c.loop-i.invariant.3 j (later_parts _ (at b j) l).0 (c.in_default.ensures.next j l)) inv.2 in
+    let came : Came (turns (length start) c.loop-i.market.away.best R 0 old start) b c.args.reports.now c.loop-i.reports = record { book = end.0; reported = rw end.1 at inv.1 } in
+    subst (λ a. Came (turns (length start) a.best R 0 old start) b c.args.reports.now c.loop-i.reports) same came

@@ -14,9 +14,10 @@ abbrev pub invariant-loop-i : goal.invariant-loop-i
 invariant-loop-i l =
     (used l.reports + taken (orders_of l.self) + count_by (later l.last) (orders_of l.self) ≤ used l.initial.reports + taken (orders_of l.initial.self) + 64)
     × (capacity l.reports ≡ capacity l.initial.reports)
-    × Bounds l.reach (orders_of l.self)
-    × ((R : ℕ → Bool) → On R l.away → (done : List Report) × Grown l.initial.reports done l.reports
-    × UnderWay l.away.best R l.before (turns (length (orders_of l.initial.self)) l.away.best R 0 l.before (orders_of l.initial.self)) l.last (orders_of l.self) done)
+    × (l.market.away ≡ l.initial.market.away)
+    × Bounds l.market.reach (orders_of l.self)
+    × ((R : ℕ → Bool) → On R l.market.away → (done : List Report) × Grown l.initial.reports done l.reports
+    × UnderWay l.market.away.best R l.before (turns (length (orders_of l.initial.self)) l.market.away.best R 0 l.before (orders_of l.initial.self)) l.last (orders_of l.self) done)
 
 -- those that still wait for their turn
 abbrev pub decreases-loop-i : goal.decreases-loop-i

@@ -142,22 +142,21 @@ impl Book {
         self.settle(market.away, i, before, &left, reports);
     }
 
-    // Step three of a quote: each order still resting has its turn, in arrival order. No booked price is past `reach`.
+    // Step three of a quote: each order still resting has its turn, in arrival order. No booked price is past the reach.
     fn turns(
         &mut self,
-        away: Away,
-        mut reach: Bests,
+        mut market: Market,
         before: &[Order; 64],
         reports: &mut AppendList<'_, Report>,
     )
-        requires { (used reports.old + taken (orders_of self.old) + 64 ≤ capacity reports.old) × (Bounds reach (orders_of self.old)) }
-        ensures { (R : ℕ → Bool) → On R away → Came (turns (length (orders_of self.old)) away.best R 0 before.now (orders_of self.old)) (orders_of self.new) reports.old reports.new }
+        requires { (used reports.old + taken (orders_of self.old) + 64 ≤ capacity reports.old) × (Bounds market.reach (orders_of self.old)) }
+        ensures { (R : ℕ → Bool) → On R market.away → Came (turns (length (orders_of self.old)) market.away.best R 0 before.now (orders_of self.old)) (orders_of self.new) reports.old reports.new }
     {
         let mut last = 0;
-        while let Some(i) = self.next_due(last, Market { away, reach }, before) {
+        while let Some(i) = self.next_due(last, market, before) {
             last = self.orders.order(i).arrival;
-            self.turn(Market { away, reach }, i, &before[i], reports);
-            reach = widened(&self.orders.order(i), reach);
+            self.turn(market, i, &before[i], reports);
+            market.reach = widened(&self.orders.order(i), market.reach);
         }
     }
 
@@ -168,6 +167,6 @@ impl Book {
     {
         let before = self.orders.all();
         let reach = self.orders.clamp_all(away);
-        self.turns(away, reach, &before, reports);
+        self.turns(Market { away, reach }, &before, reports);
     }
 }

@@ -20,6 +20,9 @@ loop-i-preserved c =
       c.loop-i.invariant.2,
     )
 
+pub invariant_of-self : goal.invariant_of-self
+invariant_of-self c = record { full = search rules; clean = search rules; inside = c.loop-i.self.inside; beyond = search rules }
+
 pub returns : goal.returns
 returns c =
     let xs = c.args.self.now.places in
