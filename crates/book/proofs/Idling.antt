@@ -1,7 +1,8 @@
 -- An idle order's turn changes nothing. Assumes nothing.
 --     Seen i d            of the first i places: those that arrived after last and before d are idle; or all, where there is no d
 --     idle_turn           the turn of an idle order leaves the book as it is, and is not reported
-use Rattle.std.proofs.Common.{◌≡◌, ℕ, zero, suc, ◌+◌, ◌-◌, ◌<◌, Bool, true, false, not, ◌&&◌, eqb, ltb, leb, ◌⊎◌, List, [], ◌∷◌, ◌++◌, length, set, Some, None, Option, sym, refl, ap, ◌∙◌, subst, ap₂, inl, inr, add-one, arith, length-append}
+use Rattle.std.proofs.Common.{◌≡◌, ℕ, zero, suc, ◌+◌, ◌-◌, ◌<◌, ◌≤◌, Bool, true, false, not, ◌&&◌, eqb, ltb, leb, ◌⊎◌, List, [], ◌∷◌, ◌++◌, length, set, Some, None, Option, sym, refl, ap, ◌∙◌, subst, ap₂, inl, inr, add-one, arith, length-append}
+use Rattle.std.proofs.lemmas.Bool.Decides.{nat_tests}
 use Rattle.std.proofs.lemmas.List.{set-set, set-get_or}
 use Rattle.std.proofs.lemmas.Bool.{cases_eq, cases_lt, and_parts, and_cases, not-false, both_ways, cond_both, cond-true, eqb-true, ltb-true, lt-ltb, lt-leb, ne_eqb, or_from, and_left, and_right}
 use Rattle.values.specs.declared.terms.Side.{Side}
@@ -32,6 +33,15 @@ use Rattle.book.specs.Idle.{Nearer, Bounds, are_of, stays_as, idle_on, idle_in, 
 use Rattle.book.proofs.Turning.{settle_is, kept}
 
 -- ---- the search for the first that is due
+-- the last number before d, or of all
+abbrev pub EndsAt : Option ℕ → ℕ → Type 0
+EndsAt None e = e ≡ 4294967295
+EndsAt (Some d) e = e + 1 ≡ d
+
+by_end : (n : ℕ) (d : Option ℕ) (e : ℕ) → n ≤ 4294967295 → EndsAt d e → leb n e ≡ sooner n d
+by_end n None e h a = grind (arith, nat_tests)
+by_end n (Some d) e h a = grind (arith, nat_tests)
+
 module _ (m : Market) (last : ℕ) (old b : List Order) where
   -- of the places that are in P, those that arrived after last and before d are idle
   abbrev pub Before : (ℕ → Type 0) → Option ℕ → Type 0
@@ -45,8 +55,8 @@ module _ (m : Market) (last : ℕ) (old b : List Order) where
   due_at d i = sooner (at b i).arrival d && (later last (at b i) && not (idle_in m old b i))
 
   -- the test, as it is made
-  pub due_is : (d : Option ℕ) (i : ℕ) (x : Bool) (before o : Order) → x ≡ (sooner o.arrival d && (later last o && not (idle_on m before o))) → before ≡ at old i → o ≡ at b i → due_at d i ≡ x
-  due_is d i x before o h f g = rw (f, g) at (sym h)
+  pub due_is : (d : Option ℕ) (e i : ℕ) (x : Bool) (before o : Order) → x ≡ (leb o.arrival e && (later last o && not (idle_on m before o))) → before ≡ at old i → o ≡ at b i → o.arrival ≤ 4294967295 → EndsAt d e → due_at d i ≡ x
+  due_is d e i x before o h f g r a = rw (f, g, by_end (at b i).arrival d e (subst (λ t. t.arrival ≤ 4294967295) g r) a) at (sym h)
 
   idle_or_later : (i : ℕ) → (later last (at b i) && not (idle_in m old b i)) ≡ false → later last (at b i) ≡ true → idle_in m old b i ≡ true
   idle_or_later i h l = elim (and_cases (later last (at b i)) (not (idle_in m old b i)) h) [ inl y ↦ absurd (both_ways _ y l) | inr y ↦ not-false _ y ]

@@ -1,5 +1,5 @@
 // Turns: an order that rests trades again, and comes to rest again.
-ghost use Rattle.std.specs.Prelude.{◌≡◌, ℕ, ◌+◌, ◌<◌, ◌≤◌, Bool, true, not, ◌&&◌, count_by, length, set, slice_set};
+ghost use Rattle.std.specs.Prelude.{◌≡◌, ℕ, ◌+◌, ◌<◌, ◌≤◌, Bool, true, not, ◌&&◌, nat_le, count_by, length, set, slice_set};
 ghost use Rattle.rules.specs.Book.{free, at, Live, taken};
 ghost use Rattle.rules.specs.Trading.{trade};
 ghost use Rattle.rules.specs.Routing.{nowhere};
@@ -11,7 +11,7 @@ ghost use Rattle.table.specs.Places.{Inside};
 ghost use Rattle.table.specs.Reach.{widened};
 ghost use Rattle.book.specs.Books.{orders_of};
 ghost use Rattle.book.specs.Rests.{Came, turned};
-ghost use Rattle.book.specs.Idle.{Bounds, stays_as, idle_as, idle_on, sooner, Due, NextDue};
+ghost use Rattle.book.specs.Idle.{Bounds, stays_as, idle_as, idle_on, Due, NextDue};
 
 use super::{prices_of, rest_as};
 use crate::book::Book;
@@ -30,16 +30,6 @@ use values::terms::Side;
 struct Market {
     away: Away,
     reach: Bests,
-}
-
-// It arrived before `due`, where there is one.
-fn is_sooner(order: &Order, due: Option<u32>) -> bool
-    ensures { result ≡ sooner order.now.arrival due }
-{
-    match due {
-        Some(first) => order.arrival < first,
-        None => true,
-    }
 }
 
 impl Market {
@@ -69,11 +59,12 @@ impl Market {
         }
     }
 
-    // It arrived after `last` and before `due`, and is not idle.
-    fn is_due(self, last: u32, due: Option<u32>, before: &Order, order: &Order) -> bool
-        ensures { result ≡ (sooner order.now.arrival due && (later last order.now && not (idle_on self before.now order.now))) }
+    // It arrived after `last` and by `end`, and is not idle.
+    fn is_due(self, last: u32, end: u32, before: &Order, order: &Order) -> bool
+        ensures due { result ≡ (nat_le order.now.arrival end && (later last order.now && not (idle_on self before.now order.now))) }
+        ensures number { order.now.arrival ≤ 4294967295 }
     {
-        is_sooner(order, due) && (comes_after(last, order) && !self.is_idle(before, order))
+        order.arrival <= end && (comes_after(last, order) && !self.is_idle(before, order))
     }
 }
 
@@ -83,9 +74,12 @@ impl Book {
         ensures { Due market last before.now (orders_of self.now) result }
     {
         let mut due = None;
+        // The last number before `due`, or of all: one comparison decides most orders.
+        let mut end = u32::MAX;
         for (order, before) in self.orders.used().iter().zip(before) {
-            if market.is_due(last, due, before, order) {
+            if market.is_due(last, end, before, order) {
                 due = Some(order.arrival);
+                end = order.arrival - 1;
             }
         }
         due
