@@ -10,23 +10,23 @@ use Rattle.series.proofs.Coming.{beside, room_is, came_refused, grew}
 use Rattle.series.proofs.Entering.{order_unfit, order_rowed, order_judged, order_passed, entry_fits, entering_as, order_came}
 use Rattle.series.proofs.series.Series.order.Goals as goal
 
-pub returns-in_err-order : goal.returns-in_err-order
-returns-in_err-order g c =
+pub returns-in_err-order-clause-came : goal.returns-in_err-order-clause-came
+returns-in_err-order-clause-came g c =
     let p = err_from_is_err_and c.from_residual.result c.from_residual.ensures.1 in
     let e = sym c.in_err-order.ensures in
-    rw (p.1, p.2) (record { came = came_refused _ _ _ _ _ _ _ (order_unfit _ _ _ _ _ e); whole = refl; ladder = refl; board = refl; reports = refl; slips = refl })
+    rw (p.1, p.2) (came_refused _ _ _ _ _ _ _ (order_unfit _ _ _ _ _ e))
 
-pub returns-in_err-place : goal.returns-in_err-place
-returns-in_err-place g c =
+pub returns-in_err-place-clause-came : goal.returns-in_err-place-clause-came
+returns-in_err-place-clause-came g c =
     let p = err_from_is_err_and c.from_residual-in_err-place.result c.from_residual-in_err-place.ensures.1 in
     let s = state (g.B.Board.quotes c.args.self.now.board) c.args.self.now.ledger in
     let o = c.in_ok-order.order in
     let e = sym c.in_ok-order.ensures in
     let row = ap (λ (n : ℕ). entry_row s o n (free_places c.args.slips.now)) (room_is _ _ _ c.room.ensures) ∙ ap (λ (n : ℕ). entry_row s o c.room.result n) (room_is _ _ _ c.room-2.ensures) ∙ c.in_err-place.ensures in
-    rw (p.1, p.2) (record { came = came_refused _ _ _ _ _ _ _ (order_rowed _ s _ _ o _ e row); whole = refl; ladder = refl; board = refl; reports = refl; slips = refl })
+    rw (p.1, p.2) (came_refused _ _ _ _ _ _ _ (order_rowed _ s _ _ o _ e row))
 
-pub returns-in_err-passed : goal.returns-in_err-passed
-returns-in_err-passed g c =
+pub returns-in_err-passed-clause-came : goal.returns-in_err-passed-clause-came
+returns-in_err-passed-clause-came g c =
     let p = err_from_is_err_and c.from_residual-in_err-passed.result c.from_residual-in_err-passed.ensures.1 in
     let R = g.L.Ladder.rung c.args.self.now.ladder in
     let s = state (g.B.Board.quotes c.args.self.now.board) c.args.self.now.ledger in
@@ -34,7 +34,7 @@ returns-in_err-passed g c =
     let e = sym c.in_ok-order.ensures in
     let row = ap (λ (n : ℕ). entry_row s o n (free_places c.args.slips.now)) (room_is _ _ _ c.room.ensures) ∙ ap (λ (n : ℕ). entry_row s o c.room.result n) (room_is _ _ _ c.room-2.ensures) ∙ c.in_ok-place.ensures.0 in
     let why = ap (λ (b : Bests). passing R s.wide b (here s.orders) o) (sym c.away_best-away.ensures.best) ∙ sym c.in_err-passed.ensures in
-    rw (p.1, p.2) (record { came = came_refused _ _ _ _ _ _ _ (order_judged R s _ _ o _ e row why); whole = refl; ladder = refl; board = refl; reports = refl; slips = refl })
+    rw (p.1, p.2) (came_refused _ _ _ _ _ _ _ (order_judged R s _ _ o _ e row why))
 
 pub enter-requires : goal.enter-requires
 enter-requires g c =
