@@ -6,37 +6,17 @@ returns-in-Open-clause-came g c =
     let r = c.open.result in
     called _ _ _ _ _ _ _ _ _ _ r c.in-Open.is (beside_lists _ _ _ _ _ _ _ r (c.open.ensures.came _))
 
-pub returns-in-Open-clause-board : goal.returns-in-Open-clause-board
-returns-in-Open-clause-board g c =
-    let r = c.open.result in
-    board_of _ _ _ _ c.in-Open.is c.open.ensures.board
-
 pub returns-in-Away-clause-came : goal.returns-in-Away-clause-came
 returns-in-Away-clause-came g c =
     let r = c.away.result in
     called _ _ _ _ _ _ _ _ _ _ r c.in-Away.is (beside_slips _ _ _ _ _ _ _ _ r (c.away.ensures.came _))
-
-pub returns-in-Away-clause-board : goal.returns-in-Away-clause-board
-returns-in-Away-clause-board g c =
-    let r = c.away.result in
-    board_of _ _ _ _ c.in-Away.is tt
 
 pub returns-in-Cancel-clause-came : goal.returns-in-Cancel-clause-came
 returns-in-Cancel-clause-came g c =
     let r = c.cancel.result in
     called _ _ _ _ _ _ _ _ _ _ r c.in-Cancel.is (beside_slips _ _ _ _ _ _ _ _ r (c.cancel.ensures.came _))
 
-pub returns-in-Cancel-clause-board : goal.returns-in-Cancel-clause-board
-returns-in-Cancel-clause-board g c =
-    let r = c.cancel.result in
-    board_of _ _ _ _ c.in-Cancel.is c.cancel.ensures.board
-
 pub returns-in-Reply-clause-came : goal.returns-in-Reply-clause-came
 returns-in-Reply-clause-came g c =
     let r = c.reply.result in
     called _ _ _ _ _ _ _ _ _ _ r c.in-Reply.is (beside_slips _ _ _ _ _ _ _ _ r (c.reply.ensures.came _))
-
-pub returns-in-Reply-clause-board : goal.returns-in-Reply-clause-board
-returns-in-Reply-clause-board g c =
-    let r = c.reply.result in
-    board_of _ _ _ _ c.in-Reply.is c.reply.ensures.board
