@@ -1,17 +1,16 @@
 -- From what came of a call to the history that it adds to. Assumes nothing.
-use Rattle.std.proofs.Common.{◌≡◌, ℕ, Bool, List, [], ◌∷◌, ◌++◌, Ok, Err, Result, sym, refl, ap, ◌∙◌, subst, append-nil, arith}
+use Rattle.std.proofs.Common.{◌≡◌, ℕ, Bool, List, [], ◌∷◌, ◌++◌, Ok, Err, Result, sym, refl, ap, ◌∙◌, subst, append-nil}
 use Rattle.values.specs.declared.calls.Call.{Call}
 use Rattle.values.specs.declared.faults.Fault.{Fault}
 use Rattle.values.specs.declared.reports.Report.{Report}
 use Rattle.values.specs.declared.reports.Slip.{Slip}
-use Rattle.records.specs.declared.list.AppendList.{AppendList}
 use Rattle.rules.specs.declared.Room.{Room}
 use Rattle.rules.specs.Ladders.{Rungs}
 use Rattle.rules.specs.States.{State}
 use Rattle.rules.specs.Steps.{Event, Step}
 use Rattle.rules.specs.Steps.Run.{next}
 use Rattle.law.proofs.Whole.{law}
-use Rattle.series.specs.Calls.{Came, Lent, Untold, Adds, Follows}
+use Rattle.series.specs.Calls.{Came, Adds, Follows}
 
 -- ---- a call that touches no list leaves it as it is
 unmoved : {T : Type 0} (xs ys : List T) → [] ≡ ys → xs ≡ xs ++ ys

@@ -1,4 +1,4 @@
-use Rattle.std.proofs.Common.{◌++◌, subst, rules}
+use Rattle.std.proofs.Common.{◌++◌, subst}
 use Rattle.values.specs.declared.reports.Slip.{Slip}
 use Rattle.records.specs.Contents.{Grown}
 use Rattle.records.proofs.Growing.{grown_more}

@@ -1,4 +1,4 @@
-use Rattle.std.proofs.Common.{List, ap, ◌∙◌, arith}
+use Rattle.std.proofs.Common.{List, ap, ◌∙◌}
 use Rattle.values.specs.declared.reports.Slip.{Slip}
 use Rattle.rules.specs.Slips.{filed}
 use Rattle.table.specs.Tables.{slips_in}

@@ -1,4 +1,4 @@
-use Rattle.series.proofs.Following.{beside_slips, beside_lists, lent_same, called, board_of}
+use Rattle.series.proofs.Following.{beside_slips, beside_lists, called}
 use Rattle.series.proofs.series.Series.by_kind.Goals as goal
 
 pub returns-in-Open-clause-came : goal.returns-in-Open-clause-came
