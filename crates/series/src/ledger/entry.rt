@@ -88,7 +88,8 @@ impl Ledger {
     }
 
     // The passed order is entered by way of the free place, and its slips go out.
-    // The order, its free place, the board's two views and the lists: no two of these go together anywhere else.
+    // Each comes from elsewhere: the order from the monitor and from its checks, the place from a row, the market from
+    // the board, the lists from the caller.
     pub fn enter(
         &mut self,
         passed: Passed,
