@@ -96,6 +96,7 @@ fn put_rooms(out: &mut String) -> Result<(), AllocError> {
 }
 
 // One call with all the room that it may want, whose answer is not written.
+// Lists of its own, as `ask` has: what a function for both filled would end with it, and `ask` reads it after the call.
 fn carry_out<L: Ladder + Drop, B: Board + Drop>(
     series: &mut Series<L, B>,
     call: Call,
@@ -134,6 +135,7 @@ fn put_board(out: &mut String, memory: &mut [u8]) -> Result<(), AllocError> {
 }
 
 // So many bytes, at most 300, offered as a board's memory, and how many of them were written.
+// An array, as a host without a heap lends one.
 fn put_memory(out: &mut String, length: usize) -> Result<(), AllocError> {
     let mut memory = [7u8; 300];
     let end = length.min(300);

@@ -111,12 +111,10 @@ entry_fits s o m k h =
     go true false false false false false g h = (refl, refl, refl)
 
 -- what the book was told to enter is what the rules enter
-pub entering_as : (R : ℕ → Bool) (s : State) (o : CheckedOrder) (i : ℕ) (p : Passed) (e : Bests) (go : Bool) (qs : List Quote) (x : ℕ) → x ≡ o.id → e ≡ bests s.quotes → go ≡ routable o → qs ≡ s.quotes → passing R s.wide e (here s.orders) o ≡ Ok p → after_entry s x (enter e R (routing go qs e s.numbered) i (suc s.arrivals) (terms_of p) s.orders) ≡ entering R s i o
-entering_as R s o i p e go qs x is best may all pass =
+pub entering_as : (R : ℕ → Bool) (s : State) (o : CheckedOrder) (i : ℕ) (p : Passed) (e : Bests) (qs : List Quote) → e ≡ bests s.quotes → qs ≡ s.quotes → passing R s.wide e (here s.orders) o ≡ Ok p → after_entry s o.id (enter e R (routing (routable o) qs e s.numbered) i (suc s.arrivals) (terms_of p) s.orders) ≡ entering R s i o
+entering_as R s o i p e qs best all pass =
     let t : terms_of p ≡ terms_now R s o = terms_passed R s.wide e (here s.orders) o p pass ∙ ap (λ b. admit R b (here s.orders) o) best in
-    ap (λ y. after_entry s y (enter e R (routing go qs e s.numbered) i (suc s.arrivals) (terms_of p) s.orders)) is
-    ∙ ap (λ y. after_entry s o.id (enter e R (routing go qs e s.numbered) i (suc s.arrivals) y s.orders)) t
-    ∙ ap (λ y. after_entry s o.id (enter e R (routing y qs e s.numbered) i (suc s.arrivals) (terms_now R s o) s.orders)) may
+    ap (λ y. after_entry s o.id (enter e R (routing (routable o) qs e s.numbered) i (suc s.arrivals) y s.orders)) t
     ∙ ap (λ y. after_entry s o.id (enter e R (routing (routable o) y e s.numbered) i (suc s.arrivals) (terms_now R s o) s.orders)) all
     ∙ ap (λ y. after_entry s o.id (enter y R (routing (routable o) s.quotes y s.numbered) i (suc s.arrivals) (terms_now R s o) s.orders)) best
 

@@ -1,17 +1,16 @@
 -- From what came of a call to the history that it adds to. Assumes nothing.
-use Rattle.std.proofs.Common.{◌≡◌, ℕ, Bool, List, [], ◌∷◌, ◌++◌, Ok, Err, Result, sym, refl, ap, ◌∙◌, subst, append-nil, arith}
+use Rattle.std.proofs.Common.{◌≡◌, ℕ, Bool, List, [], ◌∷◌, ◌++◌, Ok, Err, Result, sym, refl, ap, ◌∙◌, subst, append-nil}
 use Rattle.values.specs.declared.calls.Call.{Call}
 use Rattle.values.specs.declared.faults.Fault.{Fault}
 use Rattle.values.specs.declared.reports.Report.{Report}
 use Rattle.values.specs.declared.reports.Slip.{Slip}
-use Rattle.records.specs.declared.list.AppendList.{AppendList}
 use Rattle.rules.specs.declared.Room.{Room}
 use Rattle.rules.specs.Ladders.{Rungs}
 use Rattle.rules.specs.States.{State}
 use Rattle.rules.specs.Steps.{Event, Step}
 use Rattle.rules.specs.Steps.Run.{next}
 use Rattle.law.proofs.Whole.{law}
-use Rattle.series.specs.Calls.{Came, Lent, Untold, Adds, Follows}
+use Rattle.series.specs.Calls.{Came, Adds, Follows}
 
 -- ---- a call that touches no list leaves it as it is
 unmoved : {T : Type 0} (xs ys : List T) → [] ≡ ys → xs ≡ xs ++ ys
@@ -25,16 +24,9 @@ pub beside_lists : (R : ℕ → Bool) (c : Call) (m : Room) (s s' : State) (rs :
 beside_lists R c m s s' rs ss (Ok u) came = (came.0, came.1, unmoved rs came.0 came.2, unmoved ss came.1 came.3, came.4)
 beside_lists R c m s s' rs ss (Err f) came = (refl, refl, came.2)
 
-pub lent_same : {T : Type 0} (r : Result Unit Fault) (l : AppendList T) → Lent r l l
-lent_same (Ok u) l = (refl, refl, omega arith)
-lent_same (Err f) l = refl
-
 -- the call by its name
 pub called : (R : ℕ → Bool) (c x : Call) (m : Room) (s s' : State) (rs rs' : List Report) (ss ss' : List Slip) (r : Result Unit Fault) → c ≡ x → Came R x m s s' rs rs' ss ss' r → Came R c m s s' rs rs' ss ss' r
 called R c x m s s' rs rs' ss ss' r e came = subst (λ (y : Call). Came R y m s s' rs rs' ss ss' r) (sym e) came
-
-pub board_of : {B : Type 0} (c x : Call) (b b' : B) → c ≡ x → Untold x b b' → Untold c b b'
-board_of c x b b' e h = subst (λ (y : Call). Untold y b b') (sym e) h
 
 -- ---- a step adds to every history, and the law goes with it
 pub adds : (R : ℕ → Bool) → Rungs R → (s : State) (e : Event) (s' : State) → Step R s e s' → Adds R s e s'

@@ -46,11 +46,12 @@ same_state : (s : State) (b b' : List Order) (x x' : List Sent) (a a' n n' : ℕ
 same_state s b b' x x' a a' n n' p q r t = cc
 
 -- an entry of the book, with its slips filed, is an entry of the series
-pub admitted : (e : Bests) (R : ℕ → Bool) (go : Bool) (qs : List Quote) (i : ℕ) (t : Terms) (s : State) (id : ℕ) (b' : List Order) (x : List Sent) (count first : ℕ) (l l' : AppendList Report) (k k' : AppendList Slip) → Dealt (enter e R (routing go qs e s.numbered) i (s.arrivals + 1) t s.orders) b' l l' k k' → x ≡ filed id (drop first (contents k')) s.sent → count + first ≡ used k' → first ≡ used k → used k ≤ capacity k
-    → Admitted (enter e R (routing go qs e s.numbered) i (suc s.arrivals) t s.orders) id s (record { opened = s.opened; wide = s.wide; quotes = s.quotes; orders = b'; sent = x; arrivals = s.arrivals + 1; numbered = s.numbered + count }) l l' k k'
-admitted e R go qs i t s id b' x count first l l' k k' dealt out n from in' =
-    let r = enter e R (routing go qs e s.numbered) i (suc s.arrivals) t s.orders in
-    let d : Dealt r b' l l' k k' = subst (λ (a : ℕ). Dealt (enter e R (routing go qs e s.numbered) i a t s.orders) b' l l' k k') (add-one s.arrivals) dealt in
+pub admitted : (e : Bests) (R : ℕ → Bool) (go may : Bool) (qs : List Quote) (i : ℕ) (t : Terms) (s : State) (id : ℕ) (b' : List Order) (x : List Sent) (count first : ℕ) (l l' : AppendList Report) (k k' : AppendList Slip) → go ≡ may → Dealt (enter e R (routing go qs e s.numbered) i (s.arrivals + 1) t s.orders) b' l l' k k' → x ≡ filed id (drop first (contents k')) s.sent → count + first ≡ used k' → first ≡ used k → used k ≤ capacity k
+    → Admitted (enter e R (routing may qs e s.numbered) i (suc s.arrivals) t s.orders) id s (record { opened = s.opened; wide = s.wide; quotes = s.quotes; orders = b'; sent = x; arrivals = s.arrivals + 1; numbered = s.numbered + count }) l l' k k'
+admitted e R go may qs i t s id b' x count first l l' k k' asked dealt out n from in' =
+    let r = enter e R (routing may qs e s.numbered) i (suc s.arrivals) t s.orders in
+    let d₁ = subst (λ (y : Bool). Dealt (enter e R (routing y qs e s.numbered) i (s.arrivals + 1) t s.orders) b' l l' k k') asked dealt in
+    let d : Dealt r b' l l' k k' = subst (λ (a : ℕ). Dealt (enter e R (routing may qs e s.numbered) i a t s.orders) b' l l' k k') (add-one s.arrivals) d₁ in
     let counted : count ≡ length r.slips = omega (arith, d.sent.used, n, from) in
     record {
       after = same_state s _ _ _ _ _ _ _ _ d.book (out ∙ ap (λ xs. filed id xs s.sent) (gained k k' r.slips first d.sent from in')) (add-one s.arrivals) (ap (λ m. s.numbered + m) counted);

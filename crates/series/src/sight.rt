@@ -27,7 +27,7 @@ pub fn away_best<L: Ladder, B: Board>(ladder: &L, board: &B) -> Away
     }
 }
 
-// All fifteen quotes.
+// All fifteen quotes, in an array: a call takes nothing from the heap.
 pub fn quotes_of<B: Board>(board: &B) -> [Quote; 15]
     ensures { result ≡ B.Board.quotes board.now }
 {

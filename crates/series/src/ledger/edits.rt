@@ -35,7 +35,7 @@ impl Ledger {
         self.opened = true;
     }
 
-    // Once the board is told a quote: both steps.
+    // Once the board is told a quote: both steps. No twin of `cancel`: each passes a call of its own on to the book.
     pub fn quote(&mut self, away: Away, reports: &mut AppendList<'_, Report>)
         requires { used reports.old + 128 ≤ capacity reports.old }
         ensures { (R : ℕ → Bool) → On R away → Requoted R away.best (state [] self.old) (state [] self.new) reports.old reports.new }

@@ -2,6 +2,7 @@
 ghost use Rattle.std.specs.Prelude.{◌≡◌, ℕ, suc, ◌+◌, ◌<◌, ◌≤◌, Bool, []};
 ghost use Rattle.records.specs.Contents.{used, capacity};
 ghost use Rattle.table.specs.Away.{On};
+ghost use Rattle.checks.specs.Checked.{routable};
 ghost use Rattle.book.specs.Passing.{terms_of};
 ghost use Rattle.rules.specs.Resting.{enter};
 ghost use Rattle.rules.specs.Routing.{routing};
@@ -87,13 +88,13 @@ impl Ledger {
     }
 
     // The passed order is entered by way of the free place, and its slips go out.
-    // What it is given comes from the order, the board and the lists, and no two of these go together anywhere else.
+    // Each comes from elsewhere: the order from the monitor and from its checks, the place from a row, the market from
+    // the board, the lists from the caller.
     pub fn enter(
         &mut self,
         passed: Passed,
-        id: u32,
+        order: CheckedOrder,
         place: usize,
-        routable: bool,
         away: Away,
         quotes: &[Quote; 15],
         reports: &mut AppendList<'_, Report>,
@@ -104,18 +105,18 @@ impl Ledger {
         requires arrivals { (state [] self.old).arrivals < 1000000 }
         requires reports { used reports.old + 128 ≤ capacity reports.old }
         requires slips { used slips.old + 15 ≤ capacity slips.old }
-        ensures { (R : ℕ → Bool) → On R away → Admitted (enter away.best R (routing routable quotes.now away.best (state [] self.old).numbered) place (suc (state [] self.old).arrivals) (terms_of passed) (state [] self.old).orders) id (state [] self.old) (state [] self.new) reports.old reports.new slips.old slips.new }
+        ensures { (R : ℕ → Bool) → On R away → Admitted (enter away.best R (routing (routable order) quotes.now away.best (state [] self.old).numbered) place (suc (state [] self.old).arrivals) (terms_of passed) (state [] self.old).orders) order.id (state [] self.old) (state [] self.new) reports.old reports.new slips.old slips.new }
     {
         let first = slips.used();
         let arrival = self.arrivals + 1;
         let entry = Entry {
             arrival,
             place,
-            routable,
+            routable: order.routable(),
             numbered: self.numbered,
         };
         self.book.enter(passed, entry, away, quotes, reports, slips);
-        let count = file_from(&mut self.sent, id, slips, first);
+        let count = file_from(&mut self.sent, order.id, slips, first);
         self.numbered += count;
         self.arrivals = arrival;
     }

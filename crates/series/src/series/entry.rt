@@ -65,10 +65,8 @@ impl<L: Ladder + Drop, B: Board + Drop> Series<L, B> {
         let away = away_best(&self.ladder, &self.board);
         let passed = self.pass(order, away.best)?;
         let quotes = quotes_of(&self.board);
-        let routable = order.routable();
-        self.ledger.enter(
-            passed, order.id, place, routable, away, &quotes, reports, slips,
-        );
+        self.ledger
+            .enter(passed, order, place, away, &quotes, reports, slips);
         Ok(())
     }
 }

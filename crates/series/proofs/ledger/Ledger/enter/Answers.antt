@@ -24,4 +24,4 @@ invariant_of-self c =
 
 pub returns : goal.returns
 returns c R on =
-    admitted _ R _ _ _ _ (state [] c.args.self.now) _ _ _ _ c.used-first.result _ _ _ _ (c.enter.ensures R on) c.file_from-count.ensures.filed c.file_from-count.ensures.count c.used-first.ensures c.args.slips.now.within
+    admitted _ R _ _ _ _ _ (state [] c.args.self.now) _ _ _ _ c.used-first.result _ _ _ _ c.routable.ensures (c.enter.ensures R on) c.file_from-count.ensures.filed c.file_from-count.ensures.count c.used-first.ensures c.args.slips.now.within

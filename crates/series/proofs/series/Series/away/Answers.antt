@@ -8,18 +8,18 @@ use Rattle.series.specs.Rows.{away_row}
 use Rattle.series.proofs.Coming.{beside, room_is, came_refused, away_unfit, away_rowed, away_came, grew}
 use Rattle.series.proofs.series.Series.away.Goals as goal
 
-pub returns-in_err-check_away : goal.returns-in_err-check_away
-returns-in_err-check_away g c =
+pub returns-in_err-check_away-clause-came : goal.returns-in_err-check_away-clause-came
+returns-in_err-check_away-clause-came g c =
     let p = err_from_is_err_and c.from_residual.result c.from_residual.ensures.1 in
     let e = sym c.in_err-check_away.ensures in
-    rw (p.1, p.2) (record { came = λ k. came_refused _ _ _ _ _ _ _ (away_unfit _ _ _ _ _ _ e); whole = refl; ladder = refl; reports = refl })
+    rw (p.1, p.2) (λ k. came_refused _ _ _ _ _ _ _ (away_unfit _ _ _ _ _ _ e))
 
-pub returns-in_err-report_row : goal.returns-in_err-report_row
-returns-in_err-report_row g c =
+pub returns-in_err-report_row-clause-came : goal.returns-in_err-report_row-clause-came
+returns-in_err-report_row-clause-came g c =
     let p = err_from_is_err_and c.from_residual-in_err-report_row.result c.from_residual-in_err-report_row.ensures.1 in
     let e = sym c.in_ok-check_away.ensures in
     let at = ap away_row (room_is _ _ _ c.room.ensures) ∙ sym c.in_err-report_row.ensures in
-    rw (p.1, p.2) (record { came = λ k. came_refused _ _ _ _ _ _ _ (away_rowed _ _ _ _ _ _ _ e at); whole = refl; ladder = refl; reports = refl })
+    rw (p.1, p.2) (λ k. came_refused _ _ _ _ _ _ _ (away_rowed _ _ _ _ _ _ _ e at))
 
 pub returns : goal.returns
 returns g c =

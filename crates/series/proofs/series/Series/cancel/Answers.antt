@@ -5,19 +5,19 @@ use Rattle.series.specs.Rows.{cancel_row}
 use Rattle.series.proofs.Coming.{beside, room_is, came_refused, cancel_unfit, cancel_rowed, cancel_came, grew}
 use Rattle.series.proofs.series.Series.cancel.Goals as goal
 
-pub returns-in_err-check_cancel : goal.returns-in_err-check_cancel
-returns-in_err-check_cancel g c =
+pub returns-in_err-check_cancel-clause-came : goal.returns-in_err-check_cancel-clause-came
+returns-in_err-check_cancel-clause-came g c =
     let p = err_from_is_err_and c.from_residual.result c.from_residual.ensures.1 in
     let e = sym c.in_err-check_cancel.ensures in
-    rw (p.1, p.2) (record { came = λ k. came_refused _ _ _ _ _ _ _ (cancel_unfit _ _ _ _ _ e); whole = refl; ladder = refl; board = refl; reports = refl })
+    rw (p.1, p.2) (λ k. came_refused _ _ _ _ _ _ _ (cancel_unfit _ _ _ _ _ e))
 
-pub returns-in_err-place : goal.returns-in_err-place
-returns-in_err-place g c =
+pub returns-in_err-place-clause-came : goal.returns-in_err-place-clause-came
+returns-in_err-place-clause-came g c =
     let p = err_from_is_err_and c.from_residual-in_err-place.result c.from_residual-in_err-place.ensures.1 in
     let s = state (g.B.Board.quotes c.args.self.now.board) c.args.self.now.ledger in
     let e = sym c.in_ok-check_cancel.ensures in
     let at = ap (λ (n : ℕ). cancel_row s c.args.id n) (room_is _ _ _ c.room.ensures) ∙ sym c.in_err-place.ensures.row in
-    rw (p.1, p.2) (record { came = λ k. came_refused _ _ _ _ _ _ _ (cancel_rowed _ _ _ _ _ _ e at); whole = refl; ladder = refl; board = refl; reports = refl })
+    rw (p.1, p.2) (λ k. came_refused _ _ _ _ _ _ _ (cancel_rowed _ _ _ _ _ _ e at))
 
 pub returns : goal.returns
 returns g c =

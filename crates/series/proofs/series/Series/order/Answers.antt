@@ -10,23 +10,23 @@ use Rattle.series.proofs.Coming.{beside, room_is, came_refused, grew}
 use Rattle.series.proofs.Entering.{order_unfit, order_rowed, order_judged, order_passed, entry_fits, entering_as, order_came}
 use Rattle.series.proofs.series.Series.order.Goals as goal
 
-pub returns-in_err-order : goal.returns-in_err-order
-returns-in_err-order g c =
+pub returns-in_err-order-clause-came : goal.returns-in_err-order-clause-came
+returns-in_err-order-clause-came g c =
     let p = err_from_is_err_and c.from_residual.result c.from_residual.ensures.1 in
     let e = sym c.in_err-order.ensures in
-    rw (p.1, p.2) (record { came = came_refused _ _ _ _ _ _ _ (order_unfit _ _ _ _ _ e); whole = refl; ladder = refl; board = refl; reports = refl; slips = refl })
+    rw (p.1, p.2) (came_refused _ _ _ _ _ _ _ (order_unfit _ _ _ _ _ e))
 
-pub returns-in_err-place : goal.returns-in_err-place
-returns-in_err-place g c =
+pub returns-in_err-place-clause-came : goal.returns-in_err-place-clause-came
+returns-in_err-place-clause-came g c =
     let p = err_from_is_err_and c.from_residual-in_err-place.result c.from_residual-in_err-place.ensures.1 in
     let s = state (g.B.Board.quotes c.args.self.now.board) c.args.self.now.ledger in
     let o = c.in_ok-order.order in
     let e = sym c.in_ok-order.ensures in
     let row = ap (λ (n : ℕ). entry_row s o n (free_places c.args.slips.now)) (room_is _ _ _ c.room.ensures) ∙ ap (λ (n : ℕ). entry_row s o c.room.result n) (room_is _ _ _ c.room-2.ensures) ∙ c.in_err-place.ensures in
-    rw (p.1, p.2) (record { came = came_refused _ _ _ _ _ _ _ (order_rowed _ s _ _ o _ e row); whole = refl; ladder = refl; board = refl; reports = refl; slips = refl })
+    rw (p.1, p.2) (came_refused _ _ _ _ _ _ _ (order_rowed _ s _ _ o _ e row))
 
-pub returns-in_err-passed : goal.returns-in_err-passed
-returns-in_err-passed g c =
+pub returns-in_err-passed-clause-came : goal.returns-in_err-passed-clause-came
+returns-in_err-passed-clause-came g c =
     let p = err_from_is_err_and c.from_residual-in_err-passed.result c.from_residual-in_err-passed.ensures.1 in
     let R = g.L.Ladder.rung c.args.self.now.ladder in
     let s = state (g.B.Board.quotes c.args.self.now.board) c.args.self.now.ledger in
@@ -34,19 +34,15 @@ returns-in_err-passed g c =
     let e = sym c.in_ok-order.ensures in
     let row = ap (λ (n : ℕ). entry_row s o n (free_places c.args.slips.now)) (room_is _ _ _ c.room.ensures) ∙ ap (λ (n : ℕ). entry_row s o c.room.result n) (room_is _ _ _ c.room-2.ensures) ∙ c.in_ok-place.ensures.0 in
     let why = ap (λ (b : Bests). passing R s.wide b (here s.orders) o) (sym c.away_best-away.ensures.best) ∙ sym c.in_err-passed.ensures in
-    rw (p.1, p.2) (record { came = came_refused _ _ _ _ _ _ _ (order_judged R s _ _ o _ e row why); whole = refl; ladder = refl; board = refl; reports = refl; slips = refl })
+    rw (p.1, p.2) (came_refused _ _ _ _ _ _ _ (order_judged R s _ _ o _ e row why))
 
-pub enter-requires : goal.enter-requires
-enter-requires g c =
+pub enter-requires-clause-ladder : goal.enter-requires-clause-ladder
+enter-requires-clause-ladder g c = (g.L.Ladder.rung c.args.self.now.ladder, c.away_best-away.ensures.rungs)
+
+pub enter-requires-clause-arrivals : goal.enter-requires-clause-arrivals
+enter-requires-clause-arrivals g c =
     let s = state (g.B.Board.quotes c.args.self.now.board) c.args.self.now.ledger in
-    let fits = entry_fits s c.in_ok-order.order c.room.result c.room-2.result c.in_ok-place.ensures.0 in
-    record {
-      ladder = (g.L.Ladder.rung c.args.self.now.ladder, c.away_best-away.ensures.rungs);
-      place = c.in_ok-place.ensures.1;
-      arrivals = fits.2;
-      reports = omega (arith, fits.0, c.room.ensures);
-      slips = omega (arith, fits.1, c.room-2.ensures);
-    }
+    (entry_fits s c.in_ok-order.order c.room.result c.room-2.result c.in_ok-place.ensures.0).2
 
 pub returns : goal.returns
 returns g c =
@@ -61,7 +57,7 @@ returns g c =
     let pass = sym c.in_ok-passed.ensures in
     let fine = ap (λ (b : Bests). passing R s.wide b (here s.orders) o) (sym best) ∙ pass in
     let done = c.enter.ensures R c.away_best-away.ensures.rungs in
-    let is = entering_as R s o c.in_ok-place.place c.in_ok-passed.passed c.away_best-away.result.best c.routable-routable.result c.quotes_of-quotes.result _ refl best c.routable-routable.ensures c.quotes_of-quotes.ensures pass in
+    let is = entering_as R s o c.in_ok-place.place c.in_ok-passed.passed c.away_best-away.result.best c.quotes_of-quotes.result best c.quotes_of-quotes.ensures pass in
     let in' : c.in_ok-place.place < length s.orders = omega (arith, placed.1, c.args.self.now.ledger.book.orders.full) in
     record {
       came = order_came R _ _ s _ o c.in_ok-place.place _ c.args.reports.now c.enter.new.reports c.args.slips.now c.enter.new.slips e (order_passed R s _ _ o _ e row fine) in' placed.2 is (ap (beside qs) done.after) done.reported.added done.sent.added;
