@@ -1,5 +1,5 @@
 -- Which of two ways a text goes. Assumes nothing.
-use Rattle.std.proofs.Common.{◌≡◌, ℕ, ◌<◌, ◌≤◌, ◌⊎◌, List, [], ◌∷◌, length, get_or, codes, refl, arith}
+use Rattle.std.proofs.Common.{◌≡◌, ℕ, ◌<◌, ◌≤◌, ◌⊎◌, List, [], ◌∷◌, length, codes, refl, arith}
 use lib.Utf8.{encode}
 use Rattle.std.proofs.lemmas.Bool.Decides.{nat_tests}
 use Rattle.values.specs.declared.reports.Report.{Report}
@@ -21,7 +21,3 @@ closing_none (r ∷ rs) e = absurd (omega arith)
 pub closing_some : (rs : List Report) → 0 < length rs → codes "\n" ≡ closing rs
 closing_some [] h = absurd (omega arith)
 closing_some (r ∷ rs) h = refl
-
-pub first_none : (l : List ℕ) → length l ≡ 0 → 0 ≡ get_or l 0 0
-first_none [] e = refl
-first_none (b ∷ l) e = absurd (omega arith)
