@@ -31,6 +31,9 @@ enum Term {
     Unlisted { letter: Letter },
 }
 
+// What a letter says is told by its capital, and not by `Side::try_from`: no type forbids `Letter::Unlisted('B')`, which
+// is the letter B here and which the conversion does not list. Four matches, not one table: each lists its letters as
+// the format does.
 fn side_term(letter: Letter) -> Term
     ensures { result ≡ side_term letter }
 {
@@ -83,6 +86,7 @@ fn protection_term(rungs: u32) -> Term
     }
 }
 
+// Two functions, one for each side: one for both would take the two terms as closures.
 fn bid_term(price: u32, size: u32) -> Term
     ensures { result ≡ bid_term price size }
 {
