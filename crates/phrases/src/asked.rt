@@ -110,6 +110,7 @@ fn offer_term(price: u32, size: u32) -> Term
 impl fmt::Display for Term {
     ghost output = { λ t. Some (term_words t) };
 
+    #[tactic(auto, unfolding(crate::specs::Asked::term_words))]
     fn fmt<W: fmt::Write>(&self, f: &mut fmt::Formatter<W>) -> fmt::Result {
         match *self {
             Term::Buy => write!(f, "buy"),
@@ -149,6 +150,7 @@ struct Terms(OrderFields);
 impl fmt::Display for Terms {
     ghost output = { λ t. Some (terms_words t.0) };
 
+    #[tactic(auto, unfolding(crate::specs::Asked::terms_words))]
     fn fmt<W: fmt::Write>(&self, f: &mut fmt::Formatter<W>) -> fmt::Result {
         let price = price_term(self.0.kind, self.0.limit);
         let origin = origin_term(self.0.origin);
@@ -164,6 +166,7 @@ struct Entered(OrderFields);
 impl fmt::Display for Entered {
     ghost output = { λ o. Some (order_words o.0) };
 
+    #[tactic(auto, unfolding(crate::specs::Asked::order_words))]
     fn fmt<W: fmt::Write>(&self, f: &mut fmt::Formatter<W>) -> fmt::Result {
         let id = self.0.id;
         let firm = self.0.firm;
@@ -181,6 +184,7 @@ struct Quoted(Quote);
 impl fmt::Display for Quoted {
     ghost output = { λ q. Some (quote_words q.0) };
 
+    #[tactic(auto, unfolding(crate::specs::Asked::quote_words))]
     fn fmt<W: fmt::Write>(&self, f: &mut fmt::Formatter<W>) -> fmt::Result {
         let bid = bid_term(self.0.bid, self.0.bid_size);
         let offer = offer_term(self.0.offer, self.0.offer_size);
@@ -195,6 +199,7 @@ pub struct Asked(pub Call);
 impl fmt::Display for Asked {
     ghost output = { λ a. Some (asked_words a.0) };
 
+    #[tactic(auto, unfolding(crate::specs::Asked::asked_words))]
     fn fmt<W: fmt::Write>(&self, f: &mut fmt::Formatter<W>) -> fmt::Result {
         match self.0 {
             Call::Away { exchange, quote } => {

@@ -30,6 +30,7 @@ pub enum FieldName {
 impl fmt::Display for FieldName {
     ghost output = { λ n. Some (name_words n) };
 
+    #[tactic(auto, unfolding(crate::specs::Names::name_words))]
     fn fmt<W: fmt::Write>(&self, f: &mut fmt::Formatter<W>) -> fmt::Result {
         match *self {
             FieldName::Kind => write!(f, "kind of line"),

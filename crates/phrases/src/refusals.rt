@@ -11,6 +11,7 @@ struct OfLine(LineFault);
 impl fmt::Display for OfLine {
     ghost output = { λ w. Some (line_words w.0) };
 
+    #[tactic(auto, unfolding(crate::specs::Refusals::line_words))]
     fn fmt<W: fmt::Write>(&self, f: &mut fmt::Formatter<W>) -> fmt::Result {
         match self.0 {
             LineFault::NoCall => write!(
@@ -34,6 +35,7 @@ struct OfCheck(CheckFault);
 impl fmt::Display for OfCheck {
     ghost output = { λ w. Some (check_words w.0) };
 
+    #[tactic(auto, unfolding(crate::specs::Refusals::check_words))]
     fn fmt<W: fmt::Write>(&self, f: &mut fmt::Formatter<W>) -> fmt::Result {
         match self.0 {
             CheckFault::OutOfRange { .. } => {
@@ -51,6 +53,7 @@ struct OfSeries(SeriesFault);
 impl fmt::Display for OfSeries {
     ghost output = { λ w. Some (series_words w.0) };
 
+    #[tactic(auto, unfolding(crate::specs::Refusals::series_words))]
     fn fmt<W: fmt::Write>(&self, f: &mut fmt::Formatter<W>) -> fmt::Result {
         match self.0 {
             SeriesFault::NotOpen => write!(f, "the series is not open yet"),
@@ -79,6 +82,7 @@ struct OfMonitor(MonitorFault);
 impl fmt::Display for OfMonitor {
     ghost output = { λ w. Some (monitor_words w.0) };
 
+    #[tactic(auto, unfolding(crate::specs::Refusals::monitor_words))]
     fn fmt<W: fmt::Write>(&self, f: &mut fmt::Formatter<W>) -> fmt::Result {
         match self.0 {
             MonitorFault::WideMarket => write!(
@@ -101,6 +105,7 @@ pub struct Meaning(pub Fault);
 impl fmt::Display for Meaning {
     ghost output = { λ w. Some (fault_words w.0) };
 
+    #[tactic(auto, unfolding(crate::specs::Refusals::fault_words))]
     fn fmt<W: fmt::Write>(&self, f: &mut fmt::Formatter<W>) -> fmt::Result {
         match self.0 {
             Fault::Line(fault) => {
