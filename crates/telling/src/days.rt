@@ -20,6 +20,7 @@ impl Voice<String> for InWords {
         put_settled(out, settings)
     }
 
+    #[tactic(auto, unfolding(crate::specs::Paragraphs::unsettled))]
     fn unsettled(out: &mut String, line: &[u8], fault: Fault) -> Result<(), AllocError> {
         put_refused(out, "The day cannot begin.", line, fault)
     }

@@ -74,6 +74,7 @@ pub fn put_refused<D: fmt::Display + Copy>(
     put_refusal(out, line, fault)
 }
 
+#[tactic(auto, unfolding(crate::specs::Paragraphs::ladder_words))]
 fn ladder_words(ladder: AnyLadder) -> &'static str
     ensures { result.now ≡ ladder_words ladder }
 {
@@ -84,6 +85,7 @@ fn ladder_words(ladder: AnyLadder) -> &'static str
     }
 }
 
+#[tactic(auto, unfolding(crate::specs::Paragraphs::width_words))]
 fn width_words(wide: bool) -> &'static str
     ensures { result.now ≡ width_words wide }
 {

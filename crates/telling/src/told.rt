@@ -38,6 +38,7 @@ impl Told for Slip {
 impl Told for u8 {
     ghost words = { visible };
 
+    #[tactic(auto, unfolding(crate::specs::Fields::visible))]
     fn put(self, out: &mut String) -> Result<(), AllocError> {
         if b' ' <= self && self <= b'~' {
             let printed = char::from(self);
