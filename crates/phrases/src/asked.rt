@@ -8,7 +8,7 @@ use values::calls::{Call, OrderFields};
 use values::terms::Letter;
 use words::money::Dollars;
 
-// One term of an order or of a quote.
+// One term of an order or of a quote. `NoBid`, `NoOffer` and `Unlisted` are sentences like the others, and no Option.
 #[derive(Clone, Copy)]
 enum Term {
     Buy,
@@ -31,9 +31,8 @@ enum Term {
     Unlisted { letter: Letter },
 }
 
-// What a letter says is told by its capital, and not by `Side::try_from`: no type forbids `Letter::Unlisted('B')`, which
-// is the letter B here and which the conversion does not list. Four matches, not one table: each lists its letters as
-// the format does.
+// By the capital, and not by `Side::try_from`: no type forbids `Letter::Unlisted('B')`, which is told as the letter B and
+// which the conversion does not list. Four matches, not one table: each stands as the format lists its letters.
 fn side_term(letter: Letter) -> Term
     ensures { result ≡ side_term letter }
 {

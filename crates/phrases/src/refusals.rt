@@ -5,6 +5,7 @@ ghost use Rattle.phrases.specs.Refusals.{line_words, check_words, series_words, 
 use std::fmt;
 use values::faults::{CheckFault, Fault, LineFault, MonitorFault, SeriesFault};
 
+// Each type of fault has a wrapper here: what the faults themselves display as is their code.
 #[derive(Clone, Copy)]
 struct OfLine(LineFault);
 

@@ -20,7 +20,7 @@ pub fn field_after(line: &[u8], tabs: u32) -> &[u8]
     }
 }
 
-// The place of the field that a fault speaks of.
+// The place of the field that a fault speaks of. A match and no conversion: it is no type of its own but one question.
 pub fn field_of(fault: Fault) -> Option<u32>
     ensures { result ≡ field_of fault }
 {

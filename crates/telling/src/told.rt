@@ -8,7 +8,8 @@ use std::alloc::AllocError;
 use values::reports::{Report, Slip};
 use words::answers::{Reported, SentAway};
 
-// What is told one after the other.
+// What is told one after the other. A report and a slip have an impl each: their sentences are of two types, and what
+// they display as is their code.
 pub trait Told: Copy {
     ghost words: { Self → List ℕ };
 
