@@ -8,7 +8,7 @@ use values::calls::{Call, OrderFields};
 use values::terms::Letter;
 use words::money::Dollars;
 
-// One term of an order or of a quote.
+// One term of an order or of a quote. `NoBid`, `NoOffer` and `Unlisted` are sentences like the others, and no Option.
 #[derive(Clone, Copy)]
 enum Term {
     Buy,
@@ -31,6 +31,8 @@ enum Term {
     Unlisted { letter: Letter },
 }
 
+// By the capital, and not by `Side::try_from`: no type forbids `Letter::Unlisted('B')`, which is told as the letter B and
+// which the conversion does not list. Four matches, not one table: each stands as the format lists its letters.
 fn side_term(letter: Letter) -> Term
     ensures { result ≡ side_term letter }
 {
@@ -83,6 +85,7 @@ fn protection_term(rungs: u32) -> Term
     }
 }
 
+// Two functions, one for each side: one for both would take the two terms as closures.
 fn bid_term(price: u32, size: u32) -> Term
     ensures { result ≡ bid_term price size }
 {
@@ -106,6 +109,7 @@ fn offer_term(price: u32, size: u32) -> Term
 impl fmt::Display for Term {
     ghost output = { λ t. Some (term_words t) };
 
+    #[tactic(auto, unfolding(crate::specs::Asked::term_words))]
     fn fmt<W: fmt::Write>(&self, f: &mut fmt::Formatter<W>) -> fmt::Result {
         match *self {
             Term::Buy => write!(f, "buy"),
@@ -145,6 +149,7 @@ struct Terms(OrderFields);
 impl fmt::Display for Terms {
     ghost output = { λ t. Some (terms_words t.0) };
 
+    #[tactic(auto, unfolding(crate::specs::Asked::terms_words))]
     fn fmt<W: fmt::Write>(&self, f: &mut fmt::Formatter<W>) -> fmt::Result {
         let price = price_term(self.0.kind, self.0.limit);
         let origin = origin_term(self.0.origin);
@@ -160,6 +165,7 @@ struct Entered(OrderFields);
 impl fmt::Display for Entered {
     ghost output = { λ o. Some (order_words o.0) };
 
+    #[tactic(auto, unfolding(crate::specs::Asked::order_words))]
     fn fmt<W: fmt::Write>(&self, f: &mut fmt::Formatter<W>) -> fmt::Result {
         let id = self.0.id;
         let firm = self.0.firm;
@@ -177,6 +183,7 @@ struct Quoted(Quote);
 impl fmt::Display for Quoted {
     ghost output = { λ q. Some (quote_words q.0) };
 
+    #[tactic(auto, unfolding(crate::specs::Asked::quote_words))]
     fn fmt<W: fmt::Write>(&self, f: &mut fmt::Formatter<W>) -> fmt::Result {
         let bid = bid_term(self.0.bid, self.0.bid_size);
         let offer = offer_term(self.0.offer, self.0.offer_size);
@@ -191,6 +198,7 @@ pub struct Asked(pub Call);
 impl fmt::Display for Asked {
     ghost output = { λ a. Some (asked_words a.0) };
 
+    #[tactic(auto, unfolding(crate::specs::Asked::asked_words))]
     fn fmt<W: fmt::Write>(&self, f: &mut fmt::Formatter<W>) -> fmt::Result {
         match self.0 {
             Call::Away { exchange, quote } => {

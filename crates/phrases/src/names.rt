@@ -1,6 +1,6 @@
 // The names of a line's fields.
 ghost use Rattle.std.specs.Prelude.{◌≡◌, ℕ, Some};
-ghost use Rattle.phrases.specs.Names.{header_field, away_field, order_field, reply_field, field_named, name_words};
+ghost use Rattle.phrases.specs.Names.{field_named, name_words};
 
 use std::fmt;
 
@@ -30,6 +30,7 @@ pub enum FieldName {
 impl fmt::Display for FieldName {
     ghost output = { λ n. Some (name_words n) };
 
+    #[tactic(auto, unfolding(crate::specs::Names::name_words))]
     fn fmt<W: fmt::Write>(&self, f: &mut fmt::Formatter<W>) -> fmt::Result {
         match *self {
             FieldName::Kind => write!(f, "kind of line"),
@@ -55,64 +56,31 @@ impl fmt::Display for FieldName {
     }
 }
 
-fn header_field(place: u32) -> FieldName
-    ensures { result ≡ header_field place }
-{
-    match place {
-        2 => FieldName::Ladder,
-        _ => FieldName::WidthMark,
-    }
-}
-
-fn away_field(place: u32) -> FieldName
-    ensures { result ≡ away_field place }
-{
-    match place {
-        2 => FieldName::Exchange,
-        3 => FieldName::BidPrice,
-        4 => FieldName::BidSize,
-        5 => FieldName::OfferPrice,
-        _ => FieldName::OfferSize,
-    }
-}
-
-fn order_field(place: u32) -> FieldName
-    ensures { result ≡ order_field place }
-{
-    match place {
-        2 => FieldName::Id,
-        3 => FieldName::Firm,
-        4 => FieldName::Side,
-        5 => FieldName::Origin,
-        6 => FieldName::OrderKind,
-        7 => FieldName::Mark,
-        8 => FieldName::Limit,
-        9 => FieldName::Size,
-        _ => FieldName::Protection,
-    }
-}
-
-fn reply_field(place: u32) -> FieldName
-    ensures { result ≡ reply_field place }
-{
-    match place {
-        2 => FieldName::Slip,
-        _ => FieldName::Filled,
-    }
-}
-
-// The name of the field at this place, counted from 1, of a line of this kind.
+// The name of the field at this place, counted from 1, of a line of this kind. The kind is a byte and no enum: it is
+// the first of a line that may be of no kind.
 pub fn field_named(kind: u8, place: u32) -> FieldName
     ensures { result ≡ field_named kind place }
 {
-    if place == 1 {
-        return FieldName::Kind;
-    }
-    match kind {
-        b'H' => header_field(place),
-        b'A' => away_field(place),
-        b'O' => order_field(place),
-        b'R' => reply_field(place),
+    match (kind, place) {
+        (_, 1) => FieldName::Kind,
+        (b'H', 2) => FieldName::Ladder,
+        (b'H', _) => FieldName::WidthMark,
+        (b'A', 2) => FieldName::Exchange,
+        (b'A', 3) => FieldName::BidPrice,
+        (b'A', 4) => FieldName::BidSize,
+        (b'A', 5) => FieldName::OfferPrice,
+        (b'A', _) => FieldName::OfferSize,
+        (b'O', 2) => FieldName::Id,
+        (b'O', 3) => FieldName::Firm,
+        (b'O', 4) => FieldName::Side,
+        (b'O', 5) => FieldName::Origin,
+        (b'O', 6) => FieldName::OrderKind,
+        (b'O', 7) => FieldName::Mark,
+        (b'O', 8) => FieldName::Limit,
+        (b'O', 9) => FieldName::Size,
+        (b'O', _) => FieldName::Protection,
+        (b'R', 2) => FieldName::Slip,
+        (b'R', _) => FieldName::Filled,
         _ => FieldName::Id,
     }
 }

@@ -5,12 +5,14 @@ ghost use Rattle.phrases.specs.Refusals.{line_words, check_words, series_words, 
 use std::fmt;
 use values::faults::{CheckFault, Fault, LineFault, MonitorFault, SeriesFault};
 
+// Each type of fault has a wrapper here: what the faults themselves display as is their code.
 #[derive(Clone, Copy)]
 struct OfLine(LineFault);
 
 impl fmt::Display for OfLine {
     ghost output = { λ w. Some (line_words w.0) };
 
+    #[tactic(auto, unfolding(crate::specs::Refusals::line_words))]
     fn fmt<W: fmt::Write>(&self, f: &mut fmt::Formatter<W>) -> fmt::Result {
         match self.0 {
             LineFault::NoCall => write!(
@@ -34,6 +36,7 @@ struct OfCheck(CheckFault);
 impl fmt::Display for OfCheck {
     ghost output = { λ w. Some (check_words w.0) };
 
+    #[tactic(auto, unfolding(crate::specs::Refusals::check_words))]
     fn fmt<W: fmt::Write>(&self, f: &mut fmt::Formatter<W>) -> fmt::Result {
         match self.0 {
             CheckFault::OutOfRange { .. } => {
@@ -51,6 +54,7 @@ struct OfSeries(SeriesFault);
 impl fmt::Display for OfSeries {
     ghost output = { λ w. Some (series_words w.0) };
 
+    #[tactic(auto, unfolding(crate::specs::Refusals::series_words))]
     fn fmt<W: fmt::Write>(&self, f: &mut fmt::Formatter<W>) -> fmt::Result {
         match self.0 {
             SeriesFault::NotOpen => write!(f, "the series is not open yet"),
@@ -79,6 +83,7 @@ struct OfMonitor(MonitorFault);
 impl fmt::Display for OfMonitor {
     ghost output = { λ w. Some (monitor_words w.0) };
 
+    #[tactic(auto, unfolding(crate::specs::Refusals::monitor_words))]
     fn fmt<W: fmt::Write>(&self, f: &mut fmt::Formatter<W>) -> fmt::Result {
         match self.0 {
             MonitorFault::WideMarket => write!(
@@ -101,6 +106,7 @@ pub struct Meaning(pub Fault);
 impl fmt::Display for Meaning {
     ghost output = { λ w. Some (fault_words w.0) };
 
+    #[tactic(auto, unfolding(crate::specs::Refusals::fault_words))]
     fn fmt<W: fmt::Write>(&self, f: &mut fmt::Formatter<W>) -> fmt::Result {
         match self.0 {
             Fault::Line(fault) => {

@@ -2,11 +2,10 @@
 ghost use Rattle.std.specs.Prelude.{◌≡◌, ℕ, List, ◌++◌, string_bytes, OnOk};
 ghost use Rattle.telling.specs.Tellings.{in_words, Tells};
 
-use super::paragraphs::{
-    put_done, put_refused, put_settled, put_too_long, put_unread, put_unsettled,
-};
+use super::paragraphs::{put_done, put_refused, put_settled};
 use checks::checked::Settings;
 use day::{Voice, say_day};
+use phrases::asked::Asked;
 use std::alloc::AllocError;
 use values::calls::Call;
 use values::faults::{Fault, LineFault};
@@ -21,16 +20,20 @@ impl Voice<String> for InWords {
         put_settled(out, settings)
     }
 
+    #[tactic(auto, unfolding(crate::specs::Paragraphs::unsettled))]
     fn unsettled(out: &mut String, line: &[u8], fault: Fault) -> Result<(), AllocError> {
-        put_unsettled(out, line, fault)
+        put_refused(out, "The day cannot begin.", line, fault)
     }
 
     fn too_long(out: &mut String) -> Result<(), AllocError> {
-        put_too_long(out)
+        writeln!(
+            out,
+            "Refused, fault 1: the input is over 65,536 bytes, and none of it is read."
+        )
     }
 
     fn unread(out: &mut String, line: &[u8], fault: LineFault) -> Result<(), AllocError> {
-        put_unread(out, line, Fault::Line(fault))
+        put_refused(out, "This line cannot be read.", line, Fault::Line(fault))
     }
 
     fn done(
@@ -44,7 +47,7 @@ impl Voice<String> for InWords {
     }
 
     fn refused(out: &mut String, line: &[u8], call: Call, fault: Fault) -> Result<(), AllocError> {
-        put_refused(out, line, call, fault)
+        put_refused(out, Asked(call), line, fault)
     }
 }
 

@@ -6,5 +6,6 @@
 mod days;
 mod fields;
 mod paragraphs;
+mod told;
 
 pub use days::put_telling;

@@ -12,6 +12,7 @@ struct Because(Cause);
 impl fmt::Display for Because {
     ghost output = { λ b. Some (cause_words b.0) };
 
+    #[tactic(auto, unfolding(crate::specs::Answers::cause_words))]
     fn fmt<W: fmt::Write>(&self, f: &mut fmt::Formatter<W>) -> fmt::Result {
         match self.0 {
             Cause::Asked => write!(f, "the desk asked for it"),
@@ -54,6 +55,7 @@ fn stands(booked: u32, displayed: u32) -> Standing
 impl fmt::Display for Standing {
     ghost output = { λ s. Some (standing_words s) };
 
+    #[tactic(auto, unfolding(crate::specs::Answers::standing_words))]
     fn fmt<W: fmt::Write>(&self, f: &mut fmt::Formatter<W>) -> fmt::Result {
         match *self {
             Standing::UnderOffer { booked, displayed } => {
@@ -94,6 +96,7 @@ pub struct Reported(pub Report);
 impl fmt::Display for Reported {
     ghost output = { λ r. Some (report_words r.0) };
 
+    #[tactic(auto, unfolding(crate::specs::Answers::report_words))]
     fn fmt<W: fmt::Write>(&self, f: &mut fmt::Formatter<W>) -> fmt::Result {
         match self.0 {
             Report::New { arrival, id } => write!(f, " Order {id} is accepted as No. {arrival}."),
@@ -142,6 +145,7 @@ pub struct SentAway(pub Slip);
 impl fmt::Display for SentAway {
     ghost output = { λ s. Some (slip_words s.0) };
 
+    #[tactic(auto, unfolding(crate::specs::Answers::slip_words))]
     fn fmt<W: fmt::Write>(&self, f: &mut fmt::Formatter<W>) -> fmt::Result {
         let Slip {
             number,

@@ -11,6 +11,7 @@ pub struct Dollars(pub u32);
 impl fmt::Display for Dollars {
     ghost output = { λ d. Some (dollars d.0) };
 
+    #[tactic(auto, unfolding(crate::specs::Money::dollars))]
     fn fmt<W: fmt::Write>(&self, f: &mut fmt::Formatter<W>) -> fmt::Result {
         let whole = self.0 / 100;
         let tens = self.0 / 10 % 10;

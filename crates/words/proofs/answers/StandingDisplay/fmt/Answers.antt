@@ -12,7 +12,3 @@ returns-in-OverBid-clause-writes g c = rw c.in-OverBid.is c.write-in-OverBid.ens
 pub returns-in-Unseen-clause-writes : goal.returns-in-Unseen-clause-writes
 unfolding standing_words
 returns-in-Unseen-clause-writes g c = rw c.in-Unseen.is c.write-in-Unseen.ensures.writes
-
-pub returns-in-AtOne-clause-writes : goal.returns-in-AtOne-clause-writes
-unfolding standing_words
-returns-in-AtOne-clause-writes g c = rw c.in-AtOne.is c.write-in-AtOne.ensures.writes
