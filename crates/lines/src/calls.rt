@@ -25,7 +25,7 @@ trait Kind: Copy {
     fn named(letter: char) -> Option<Self>
         ensures { forms letter ≡ option_map form result };
 
-    // How many fields a line of the kind has, the kind among them.
+    // How many fields a line of the kind has, the kind among them: a count, no code for the kind.
     fn width(self) -> u32
         ensures { result ≡ width (form self) };
 

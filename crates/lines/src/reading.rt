@@ -47,9 +47,7 @@ impl Fields<'_> {
         ensures place { OnOk result (self.new.place ≡ self.old.place + 1) }
     {
         let missing = self.place + 1;
-        let (field, place) = self
-            .next()
-            .ok_or(LineFault::Unreadable { field: missing })?;
+        let (field, place) = self.next().ok_or(LineFault::Unreadable { field: missing })?;
         T::from_field(field, place)
     }
 }

@@ -14,6 +14,7 @@ pub enum AnyLadder {
 
 impl AnyLadder {
     // P has every cent, M cents and then fives, N fives and then tens; no other letter names a ladder.
+    // An Option: to be no ladder's letter is no error here.
     pub fn by_letter(letter: char) -> Option<AnyLadder>
         ensures { result ≡ by_letter letter }
     {

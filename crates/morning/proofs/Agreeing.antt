@@ -1,17 +1,12 @@
 -- Boards that are compared exchange by exchange. Assumes nothing.
-use Rattle.std.proofs.Common.{◌≡◌, ℕ, ◌+◌, ◌-◌, ◌<◌, Bool, true, cond, List, length, get_or, sym, ap, ◌∙◌, subst, arith}
+use Rattle.std.proofs.Common.{◌≡◌, ℕ, ◌+◌, ◌<◌, Bool, true, List, length, get_or, sym, ◌∙◌, subst, arith}
 use Rattle.std.specs.Bool.{MatchBool}
 use Rattle.std.specs.List.{AllWithin, range_with_len}
 use Rattle.std.proofs.lemmas.List.{ext_get_or}
 use Rattle.std.proofs.lemmas.List.FromFn.{get_or-range_with_len}
 use Rattle.market.specs.declared.board.Quote.{Quote}
 use Rattle.market.specs.Quotes.{absent, quoted}
-use Rattle.market.proofs.Packs.{here_in}
-
-quoted_next : (qs : List Quote) (i : ℕ) → i < 15 → quoted qs (i + 1) ≡ get_or qs i absent
-quoted_next qs i l =
-    let back : i + 1 - 1 ≡ i = omega arith in
-    ap (λ b. cond b (get_or qs (i + 1 - 1) absent) absent) (here_in (i + 1) (omega arith) (omega arith)) ∙ ap (λ j. get_or qs j absent) back
+use Rattle.market.proofs.Packs.{quoted_next}
 
 -- the quotes of each exchange are the same
 abbrev pub AllCompared : List Quote → List Quote → Type 0

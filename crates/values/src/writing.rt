@@ -30,6 +30,7 @@ fn put_number(line: &mut [u8; 128], end: usize, n: u32) -> usize
 {
     let mut at = end;
     let mut front = n;
+    // By the number itself, a digit at a time: it has no length before it is written.
     while front >= 10 {
         at -= 1;
         line[at] = b'0' + (front % 10) as u8;

@@ -45,7 +45,7 @@ pub fn faces(side: Side, o: &Order) -> bool
     rests(o) && side != o.terms.side
 }
 
-// A taker of this side trades with x before y.
+// A taker of this side trades with x before y. No order of `Order`: which booked price is better depends on the side.
 pub fn goes_before(side: Side, x: &Order, y: &Order) -> bool
     ensures { result ≡ prefer side x.now y.now }
 {

@@ -2,7 +2,7 @@ use Rattle.std.proofs.Common.{◌+◌, sym, ◌∙◌, arith, rules}
 use Rattle.std.proofs.lemmas.List.{ext_get_or}
 use Rattle.market.specs.Quotes.{absent, quoted}
 use Rattle.market.proofs.Packs.{made_by}
-use Rattle.series.proofs.Quoted.{quoted_next}
+use Rattle.market.proofs.Packs.{quoted_next}
 use Rattle.series.proofs.sight.quotes_of.Goals as goal
 
 pub returns : goal.returns
