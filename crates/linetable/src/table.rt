@@ -10,6 +10,7 @@ use market::any::AnyLadder;
 use std::alloc::AllocError;
 use values::calls::{Call, Header};
 use values::faults::{Fault, LineFault};
+use values::writing::{put_fault, put_line};
 
 // Where the table stands: before the first line of an input, behind a header, or behind a refused first line. No Option: it is
 // one of three.
@@ -77,9 +78,9 @@ fn tell(out: &mut String, answer: Answer) -> Result<(), AllocError>
 {
     match answer {
         Answer::Mark => writeln!(out, "#"),
-        Answer::Header(header) => writeln!(out, "{header}"),
-        Answer::Call(call) => writeln!(out, "{call}"),
-        Answer::Refused(fault) => writeln!(out, "{fault}"),
+        Answer::Header(header) => put_line(out, header),
+        Answer::Call(call) => put_line(out, call),
+        Answer::Refused(fault) => put_fault(out, fault),
         Answer::Nothing => Ok(()),
     }
 }
