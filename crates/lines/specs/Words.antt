@@ -25,3 +25,7 @@ grown b (f ∷ fs) = (b ∷ f) ∷ fs
 abbrev pub fields : List ℕ → List (List ℕ)
 fields [] = [] ∷ []
 fields (b ∷ bs) = cond (b == 9) ([] ∷ fields bs) (grown b (fields bs))
+
+-- a tab, as a number
+abbrev pub tab_of : ℕ → ℕ
+tab_of b = cond (b == 9) 1 0

@@ -1,7 +1,7 @@
 // The fields of a line, handed out one at a time with their places.
-ghost use Rattle.std.specs.Prelude.{◌≡◌, ◌+◌, ◌≤◌, length};
+ghost use Rattle.std.specs.Prelude.{◌≡◌, ◌+◌, ◌≤◌, length, sum_by};
 ghost use Rattle.std.specs.Iterator.{at_most};
-ghost use Rattle.lines.specs.Words.{word_of, fields};
+ghost use Rattle.lines.specs.Words.{word_of, fields, tab_of};
 ghost use Rattle.lines.specs.Handing.{word_in, bytes_in, left_of, room, Pulled, Short};
 
 use super::digits::numeral;
@@ -30,12 +30,27 @@ pub fn read_field(bytes: &[u8]) -> Field<'_>
     }
 }
 
-// How many fields stand in the bytes, one more than tabs.
-fn field_count(line: &[u8]) -> usize
-    ensures small { result ≤ length line.now + 1 }
-    ensures value { result ≡ length (fields line.now) }
+fn tab(byte: u8) -> u8
+    ensures value { result ≡ tab_of byte }
+    ensures bound { result ≤ 1 }
 {
-    line.iter().filter(|b| **b == b'\t').count() + 1
+    if byte == b'\t' { 1 } else { 0 }
+}
+
+// A sum of bytes, of which the compiler adds many at a time.
+fn tabs(line: &[u8]) -> u8
+    requires { length line.now ≤ 81 }
+    ensures { result ≡ sum_by tab_of line.now }
+{
+    line.iter().map(|b| tab(*b)).sum()
+}
+
+// How many fields stand in the bytes, one more than tabs.
+fn field_count(line: &[u8]) -> u8
+    requires { length line.now ≤ 81 }
+    ensures { result ≡ length (fields line.now) }
+{
+    tabs(line) + 1
 }
 
 // What is left of a line, and how many of its fields were handed out. A line that ends in a tab has an empty last field,
@@ -62,7 +77,7 @@ impl<'a> Fields<'a> {
         ensures { result ≡ length (left_of self.now.rest) + self.now.place }
     {
         match self.rest {
-            Some(bytes) => field_count(bytes) as u32 + self.place,
+            Some(bytes) => u32::from(field_count(bytes)) + self.place,
             None => self.place,
         }
     }
