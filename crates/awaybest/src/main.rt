@@ -6,6 +6,7 @@ use market::packed::BOARD_BYTES;
 use morning::answers::put_morning;
 use std::io::{Read, Write};
 
+// Read, answer, write: these steps are all that a program has of its own.
 fn main(rt: HostRuntime) -> anyhow::Result<()> {
     let mut input = Vec::new(rt.alloc());
     rt.stdin()

@@ -73,6 +73,7 @@ pub fn check_cancel(id: u32) -> Result<CheckedCall, CheckFault>
     Ok(CheckedCall::Cancel { id })
 }
 
+// The fields one by one, as each call has them: who calls from code has no line.
 pub fn check_reply(slip: u32, filled: u32) -> Result<CheckedCall, CheckFault>
     ensures { result ≡ checked_reply slip filled }
 {

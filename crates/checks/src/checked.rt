@@ -23,6 +23,7 @@ pub struct CheckedOrder {
     pub protection: u32,
 }
 
+// Not `Call` with a parameter for the order, which every clause that names a call would have to name.
 #[derive(Clone, Copy)]
 pub enum CheckedCall {
     Open,

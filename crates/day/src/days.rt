@@ -31,6 +31,7 @@ fn say_line<V: Voice<S>, S: Sink, L: Ladder + Drop, B: Board + Drop>(
     ensures value { OnOk result ((o : Outcome) × Fits line.now o × (S.Sink.bytes out.new ≡ S.Sink.bytes out.old ++ V.Voice.words.say line.now o) × Moves (L.Ladder.rung series.old.ladder) (stands B.Board.quotes series.old) o (stands B.Board.quotes series.new)) }
     ensures ladder { series.new.ladder ≡ series.old.ladder }
 {
+    // A match: the fault is said, and not handed up.
     let call = match read_call(line) {
         Ok(call) => call,
         Err(fault) => return V::unread(out, line, fault),

@@ -10,7 +10,7 @@ use std::alloc::AllocError;
 use values::calls::Call;
 use values::faults::{Fault, LineFault};
 use values::reports::{Report, Slip};
-use values::writing::{Sink, put_fault, put_reports, put_slips};
+use values::writing::{Sink, put_fault, put_lines};
 
 // Each writes its words after what is written already.
 pub trait Voice<S: Sink> {
@@ -76,8 +76,8 @@ impl<S: Sink> Voice<S> for Plain {
         reports: &[Report],
         slips: &[Slip],
     ) -> Result<(), AllocError> {
-        put_reports(out, reports)?;
-        put_slips(out, slips)
+        put_lines(out, reports)?;
+        put_lines(out, slips)
     }
 
     fn refused(out: &mut S, _line: &[u8], _call: Call, fault: Fault) -> Result<(), AllocError> {

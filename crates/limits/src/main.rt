@@ -15,7 +15,7 @@ use values::calls::{Call, OrderFields};
 use values::faults::Fault;
 use values::reports::{Report, Slip};
 use values::terms::Letter;
-use values::texts::{put_fault, put_reports, put_slips};
+use values::writing::{put_fault, put_lines};
 
 // A customer's limit buy of one contract at 100.
 fn buy(id: u32) -> Call {
@@ -60,8 +60,8 @@ fn ask<L: Ladder + Drop, B: Board + Drop>(
     let mut sent = AppendList::new(&mut slips[0..slip_places]);
     match series.call(call, &mut reported, &mut sent) {
         Ok(()) => {
-            put_reports(out, reported.as_slice())?;
-            put_slips(out, sent.as_slice())
+            put_lines(out, reported.as_slice())?;
+            put_lines(out, sent.as_slice())
         }
         Err(fault) => put_fault(out, fault),
     }

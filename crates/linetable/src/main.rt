@@ -4,12 +4,16 @@
 
 mod table;
 
+use lines::records::INPUT_LIMIT;
 use std::io::{Read, Write};
 use table::judge_table;
 
+// Read, answer, write: these steps are all that a program has of its own.
 fn main(rt: HostRuntime) -> anyhow::Result<()> {
     let mut input = Vec::new(rt.alloc());
-    rt.stdin().take(65_537).read_to_end(&mut input)?;
+    rt.stdin()
+        .take(INPUT_LIMIT as u64 + 1)
+        .read_to_end(&mut input)?;
     let mut out = String::new(rt.alloc());
     judge_table(&mut out, input.as_slice())?;
     rt.stdout().write_all(out.as_bytes())?;

@@ -18,7 +18,7 @@ pub record IsSpaced (R : ℕ → Bool) (near far : ℕ) : Type 0 where
   pub far_meets : 300 % far ≡ 0
   pub far_tops : 100000 % far ≡ 0
 
--- the laws of a ladder, of any such set
+-- the laws of a ladder, of any such set; they are proved here, since a law of a trait may not cite its crate's proofs
 pub top_rung : (R : ℕ → Bool) (near far : ℕ) → IsSpaced R near far → R 100000 ≡ true
 top_rung R near far is = let t = is.far_tops in is.same 100000 ∙ grind (arith, nat_tests)
 

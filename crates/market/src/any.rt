@@ -27,8 +27,8 @@ impl AnyLadder {
     }
 }
 
-// Each method asks the ladder that it is: four matches, since Rattle has no trait of a value chosen at run time without `dyn`,
-// and a `dyn` ladder would need a place to stand.
+// Each method asks the ladder that it is. Four matches, not one that gives the two spacings: as numbers chosen at run time they
+// would carry their laws beside them, and each step would divide by a variable.
 impl Ladder for AnyLadder {
     ghost rung = { rungs_of };
 

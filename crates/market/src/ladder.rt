@@ -148,7 +148,8 @@ impl Spaced for FivesThenTens {
     ghost spaced = { fives_then_tens_spaced };
 }
 
-// `n` rungs up, staying at the top once there.
+// `n` rungs up, staying at the top once there. Two folds, up and down: one for both would take the step as a closure, and its
+// promise as a relation.
 pub fn up<L: Ladder>(ladder: &L, from: u32, n: u32) -> u32
     ensures { result ≡ climbed (L.Ladder.rung ladder.now) n from }
 {

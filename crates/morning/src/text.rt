@@ -9,7 +9,7 @@ use std::fmt;
 use values::calls::Call;
 use values::terms::Side;
 
-// One side of a quote, a buy's being the bid: its price and size, or that there is none.
+// One side of a quote, a buy's being the bid: its price and size, or that there is none, a price of 0 as in the quote.
 #[derive(Clone, Copy)]
 struct Shown {
     side: Side,

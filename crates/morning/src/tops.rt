@@ -5,6 +5,7 @@ ghost use Rattle.morning.specs.Tops.{Top};
 use market::board::Board;
 use market::ladder::Ladder;
 
+// A price of 0 is none, as a board answers it.
 #[derive(Clone, Copy)]
 pub struct Tops {
     pub bid: u32,

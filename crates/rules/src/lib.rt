@@ -21,7 +21,7 @@ pub struct Terms {
     pub size: u32,
 }
 
-// A place of the book; it is free where nothing remains.
+// A place of the book; it is free where nothing remains. No Option: a search looks at numbers alone, and a free place is all zeros.
 #[derive(Clone, Copy)]
 pub struct Order {
     pub arrival: u32,
@@ -31,14 +31,14 @@ pub struct Order {
     pub remaining: u32,
 }
 
-// Where an order rests: the price that it trades at, and the one that is shown.
+// Where an order rests: the price that it trades at, and the one that is shown, 0 where there is none, as a report writes it.
 #[derive(Clone, Copy, PartialEq, Eq)]
 pub struct Prices {
     pub booked: u32,
     pub displayed: u32,
 }
 
-// The best bid and the best offer of a market; 0 is none.
+// The best bid and the best offer of a market; 0 is none, as in a quote.
 #[derive(Clone, Copy)]
 pub struct Bests {
     pub bid: u32,
@@ -46,6 +46,7 @@ pub struct Bests {
 }
 
 // A place for a slip that is out, with the id of its order; it is free where the slip has no size.
+// No Option, as for an order.
 #[derive(Clone, Copy)]
 pub struct Sent {
     pub slip: Slip,

@@ -6,7 +6,8 @@ ghost use Rattle.table.specs.Away.{backed};
 use rules::Bests;
 use values::terms::Side;
 
-// The away best, with the rung under its offer and the rung over its bid; 0 is none.
+// The away best, with the rung under its offer and the rung over its bid; 0 is none, as in a quote.
+// That they are these rungs is a clause (`On`) and no ghost field: it speaks of a ladder, of which the book knows nothing.
 #[derive(Clone, Copy)]
 pub struct Away {
     pub best: Bests,
@@ -34,7 +35,8 @@ pub fn beyond(side: Side, bound: u32, price: u32) -> bool
     }
 }
 
-// The better of two prices of a side: of bids the higher, of offers the lower that is present.
+// The better of two prices of a side: of bids the higher, of offers the lower that is present. The market tells it again, for the
+// sides of a quote: it knows no `Side` of an order.
 pub fn better(side: Side, x: u32, y: u32) -> u32
     ensures { result ≡ top side x y }
 {

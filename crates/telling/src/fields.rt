@@ -6,7 +6,7 @@ ghost use Rattle.telling.specs.Fields.{field_of};
 use lines::parts::split_at_first;
 use values::faults::{CheckFault, Fault, LineFault};
 
-// The field after so many tabs; nothing where there are fewer.
+// The field after so many tabs; nothing where there are fewer. By recursion, as the fields of a line are defined.
 pub fn field_after(line: &[u8], tabs: u32) -> &[u8]
     ensures { result.now ≡ slice_index_or (fields line.now) tabs [] }
 {

@@ -68,7 +68,7 @@ pub enum Fault {
     Board(BoardFault),
 }
 
-// A fault as it is reported.
+// A fault as it is reported: numbers, as its line writes them; a place of 0 is none.
 #[derive(Clone, Copy, PartialEq, Eq, Debug)]
 pub struct Code {
     pub number: u32,

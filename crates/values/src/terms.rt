@@ -75,6 +75,7 @@ impl From<char> for Letter {
 #[derive(Clone, Copy, PartialEq, Eq, Debug)]
 pub struct NotListed;
 
+// By the letters, and not by `by_letter` of the capital, which would take `Unlisted('P')` for a ladder.
 impl TryFrom<Letter> for AnyLadder {
     type Error = NotListed;
 

@@ -7,7 +7,7 @@ use super::calls::{Call, Header, OrderFields};
 use super::faults::{Code, Fault, Layer};
 use super::reports::{Cause, Report, Slip};
 use super::terms::Letter;
-pub use super::writing::{put_fault, put_line, put_lines, put_reports, put_slips};
+pub use super::writing::{put_fault, put_line, put_lines};
 use market::board::Quote;
 use std::fmt;
 

@@ -33,7 +33,7 @@ impl<'a, T: Copy> AppendList<'a, T> {
         self.slots.len() - self.len
     }
 
-    // Callers that have asked for the room once need no answer at each record.
+    // Callers that have asked for the room once need no answer at each record. The room is no invariant: each record changes it.
     pub fn push(&mut self, x: T)
         requires { used self.old < capacity self.old }
         ensures { Grown self.old (x ∷ []) self.new }

@@ -18,6 +18,7 @@ use records::AppendList;
 use values::faults::Fault;
 use values::reports::Report;
 
+// Each call says for itself what it leaves as it was: who makes one call reads one contract.
 impl<L: Ladder + Drop, B: Board + Drop> Series<L, B> {
     // A new series over any board, which is told that all fifteen exchanges are absent: the empty history.
     pub fn new(ladder: L, board: B, wide: bool) -> Series<L, B>

@@ -90,6 +90,7 @@ impl Orders {
         ensures rungs { (R : ℕ → Bool) → On R away → orders_in self.new ≡ map (clamp away.best R) (orders_in self.old) }
         ensures reach { result ≡ reach (orders_in self.new) (length (orders_in self.new)) }
     {
+        // No booked price reaches as little: the least and the largest number, which `max` and `min` leave behind.
         let mut reach = Bests {
             bid: 0,
             offer: u32::MAX,

@@ -95,7 +95,7 @@ pub fn beside(o: &Order, best: Bests) -> Bests
     }
 }
 
-// The most aggressive booked prices, with that of one order more.
+// The most aggressive booked prices, with that of one order more. Not `beside` again: there 0 is none, here it is the least.
 pub fn widened(o: &Order, reach: Bests) -> Bests
     ensures { result ≡ widened o.now reach }
 {

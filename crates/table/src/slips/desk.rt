@@ -14,13 +14,7 @@ fn nothing() -> Sent
     ensures { result ≡ no_sent }
 {
     Sent {
-        slip: Slip {
-            number: 0,
-            arrival: 0,
-            exchange: 0,
-            price: 0,
-            size: 0,
-        },
+        slip: Slip::BLANK,
         id: 0,
     }
 }
