@@ -1,13 +1,9 @@
-use Rattle.std.proofs.Common.{ℕ, ◌<◌, Bool, [], length, get_or, refl, ap, ◌∙◌, subst, arith}
+use Rattle.std.proofs.Common.{ℕ, ◌<◌, Bool, length, get_or, ap, ◌∙◌, subst, arith}
 use Rattle.rules.specs.Ladders.{Rungs}
 use Rattle.series.specs.Calls.{stands}
 use Rattle.series.specs.Runs.{Ran}
-use Rattle.series.proofs.Coming.{began}
 use Rattle.series.proofs.Running.{took_as, no_ask, ran_more, ran_all}
 use Rattle.series.proofs.runs.run.Goals as goal
-
-pub loop-ask-init : goal.loop-ask-init
-loop-ask-init g c = (refl, ([], refl, began _ _ _ c.new-series.ensures.state))
 
 pub loop-ask-preserved : goal.loop-ask-preserved
 loop-ask-preserved g c =

@@ -1,10 +1,7 @@
 use Rattle.std.proofs.Common.{[], ◌∷◌, ◌++◌, ap, arith, rules}
-use Rattle.records.proofs.Growing.{grown_none, grown_more}
-use Rattle.book.proofs.Hits.{going_starts, going_ends, going_on, going_room, shrinks}
+use Rattle.records.proofs.Growing.{grown_more}
+use Rattle.book.proofs.Hits.{going_ends, going_on, going_room, shrinks}
 use Rattle.book.proofs.book.Book.trade.Goals as goal
-
-pub loop-i-init : goal.loop-i-init
-loop-i-init c = ([], grown_none _, going_starts _ _ _)
 
 pub fill_one-requires : goal.fill_one-requires
 fill_one-requires c =

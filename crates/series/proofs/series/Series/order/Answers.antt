@@ -36,9 +36,6 @@ returns-in_err-passed-clause-came g c =
     let why = ap (λ (b : Bests). passing R s.wide b (here s.orders) o) (sym c.away_best-away.ensures.best) ∙ sym c.in_err-passed.ensures in
     rw (p.1, p.2) (came_refused _ _ _ _ _ _ _ (order_judged R s _ _ o _ e row why))
 
-pub enter-requires-clause-ladder : goal.enter-requires-clause-ladder
-enter-requires-clause-ladder g c = (g.L.Ladder.rung c.args.self.now.ladder, c.away_best-away.ensures.rungs)
-
 pub enter-requires-clause-arrivals : goal.enter-requires-clause-arrivals
 enter-requires-clause-arrivals g c =
     let s = state (g.B.Board.quotes c.args.self.now.board) c.args.self.now.ledger in
