@@ -160,7 +160,9 @@ pub fn up<L: Ladder>(ladder: &L, from: u32, n: u32) -> u32
 pub fn down<L: Ladder>(ladder: &L, from: u32, n: u32) -> u32
     ensures { result ≡ descended (L.Ladder.rung ladder.now) n from }
 {
-    (0..n).fold(from, |at, _| next_down(ladder, at))
+    // Asked once: a ladder may have to look for its lowest rung.
+    let lowest = ladder.lowest();
+    (0..n).fold(from, |at, _| next_down(ladder, lowest, at))
 }
 
 fn next_up<L: Ladder>(ladder: &L, at: u32) -> u32
@@ -169,9 +171,9 @@ fn next_up<L: Ladder>(ladder: &L, at: u32) -> u32
     ladder.above(at).unwrap_or(TOP)
 }
 
-fn next_down<L: Ladder>(ladder: &L, at: u32) -> u32
+fn next_down<L: Ladder>(ladder: &L, lowest: u32, at: u32) -> u32
+    requires { Lowest (L.Ladder.rung ladder.now) lowest }
     ensures { result ≡ last_below (L.Ladder.rung ladder.now) at }
 {
-    let lowest = ladder.lowest();
     ladder.below(at).unwrap_or(lowest)
 }

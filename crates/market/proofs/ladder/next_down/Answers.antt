@@ -7,5 +7,5 @@ returns g c =
     let s = c.args.ladder.now in
     let R = g.L.Ladder.rung s in
     let law = g.met.L.Ladder in
-    let low = bottom_lowest R c.lowest-lowest.result (law.none s) (law.most s) c.lowest-lowest.ensures in
-    c.unwrap_or.ensures ∙ sym (step_below R c.args.at c.lowest-lowest.result c.below.result low c.below.ensures)
+    let low = bottom_lowest R c.args.lowest (law.none s) (law.most s) c.requires in
+    c.unwrap_or.ensures ∙ sym (step_below R c.args.at c.args.lowest c.below.result low c.below.ensures)
