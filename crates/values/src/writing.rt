@@ -142,8 +142,16 @@ impl Line for Fault {
     }
 }
 
-// The text that begins at `start`, after what is written already. 64 bytes are copied at once and those after the text
-// cut off again, which takes fewer steps than a byte at a time.
+// The text that begins at `start`, after what is written already.
+fn append_text(out: &mut Vec<u8>, line: &[u8; 128], start: usize) -> Result<(), AllocError>
+    requires { start ≤ 64 }
+    ensures { OnOk result (out.new.items ≡ out.old.items ++ text_from start line.now) }
+{
+    out.extend_from_slice(&line[start..64])
+}
+
+// The same by 64 bytes that are copied at once, and those after the text cut off again, which takes fewer steps than a byte
+// at a time.
 fn append_block(out: &mut Vec<u8>, line: &[u8; 128], start: usize) -> Result<(), AllocError>
     requires { start ≤ 64 }
     ensures { OnOk result (out.new.items ≡ out.old.items ++ text_from start line.now) }
@@ -151,6 +159,18 @@ fn append_block(out: &mut Vec<u8>, line: &[u8; 128], start: usize) -> Result<(),
     out.extend_from_slice(&line[start..start + 64])?;
     out.truncate(out.len() - start);
     Ok(())
+}
+
+// By the block where there is room for it, so that the vector never grows for bytes that are cut off again.
+fn append_within(out: &mut Vec<u8>, line: &[u8; 128], start: usize) -> Result<(), AllocError>
+    requires { start ≤ 64 }
+    ensures { OnOk result (out.new.items ≡ out.old.items ++ text_from start line.now) }
+{
+    if out.capacity() - out.len() < 64 {
+        append_text(out, line, start)
+    } else {
+        append_block(out, line, start)
+    }
 }
 
 // The same, in a vector of this function's own: bytes that are written to it cannot change its length, so that the
@@ -161,7 +181,7 @@ fn append(out: &mut Vec<u8>, line: &[u8; 128], start: usize) -> Result<(), Alloc
 {
     let heap = *out.allocator();
     let mut all = replace(out, Vec::new(heap));
-    let done = append_block(&mut all, line, start);
+    let done = append_within(&mut all, line, start);
     *out = all;
     done
 }
