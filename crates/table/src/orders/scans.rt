@@ -1,6 +1,6 @@
 // Searches through the places.
-ghost use Rattle.std.specs.Prelude.{◌≡◌, ℕ, ◌<◌, ◌≤◌, true, length, take, IfSome};
-ghost use Rattle.rules.specs.Book.{at, pick, spot, taken, touch, here};
+ghost use Rattle.std.specs.Prelude.{◌≡◌, ℕ, ◌<◌, ◌≤◌, true, cond, length, take, IfSome};
+ghost use Rattle.rules.specs.Book.{at, live, pick, spot, taken, touch, here};
 ghost use Rattle.rules.specs.Trading.{contra, prefer};
 ghost use Rattle.rules.specs.Quoting.{later, earlier};
 ghost use Rattle.rules.specs.States.{named};
@@ -13,6 +13,14 @@ use super::search::{Later, Makers, Search};
 use crate::sides::better;
 use rules::{Bests, Order};
 use values::terms::Side;
+
+// A place that holds an order is one. Places are counted by a sum, of which the compiler adds many at a time.
+fn one(order: &Order) -> u32
+    ensures value { result ≡ cond (live order.now) 1 0 }
+    ensures bound { result ≤ 1 }
+{
+    u32::from(rests(order))
+}
 
 impl Orders {
     // The places up to the extent; no order rests in another.
@@ -85,14 +93,23 @@ impl Orders {
     pub fn vacancy(&self) -> Option<usize>
         ensures { Vacant (orders_in self.now) result }
     {
-        self.places.iter().position(|order| !rests(order))
+        for (i, order) in self.used().iter().enumerate() {
+            if !rests(order) {
+                return Some(i);
+            }
+        }
+        if self.extent < 64 {
+            Some(self.extent)
+        } else {
+            None
+        }
     }
 
     // How many orders rest.
     pub fn count(&self) -> u32
         ensures { result ≡ taken (orders_in self.now) }
     {
-        self.places.iter().filter(|order| rests(order)).count() as u32
+        self.places.iter().map(|order| one(order)).sum()
     }
 
     // The best displayed price of a side, 0 where none is displayed.

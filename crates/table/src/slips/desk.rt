@@ -1,5 +1,5 @@
 // Slips are filed, looked up and settled.
-ghost use Rattle.std.specs.Prelude.{◌≡◌, ℕ, ◌<◌, length, replicate, slice_set, take};
+ghost use Rattle.std.specs.Prelude.{◌≡◌, ℕ, ◌<◌, ◌≤◌, cond, length, replicate, slice_set, take};
 ghost use Rattle.rules.specs.Book.{found};
 ghost use Rattle.rules.specs.Slips.{no_sent, sent_at, out, vacant, carries, is_slip, seat, vacancies, file, filed};
 ghost use Rattle.table.specs.Places.{Inside};
@@ -29,6 +29,14 @@ fn is_vacant(sent: &Sent) -> bool
     ensures { result ≡ vacant sent.now }
 {
     !is_out(sent)
+}
+
+// A vacant place is one, for a sum over the places.
+fn one(sent: &Sent) -> u32
+    ensures value { result ≡ cond (vacant sent.now) 1 0 }
+    ensures bound { result ≤ 1 }
+{
+    u32::from(is_vacant(sent))
 }
 
 fn has_number(number: u32, sent: &Sent) -> bool
@@ -87,7 +95,7 @@ impl SlipsOut {
     pub fn vacancies(&self) -> u32
         ensures { result ≡ vacancies (slips_in self.now) }
     {
-        self.places.iter().filter(|sent| is_vacant(sent)).count() as u32
+        self.places.iter().map(|sent| one(sent)).sum()
     }
 
     fn vacancy(&self) -> Option<usize>

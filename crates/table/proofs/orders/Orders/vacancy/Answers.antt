@@ -1,13 +1,25 @@
-use Rattle.std.proofs.Common.{◌≡◌, not, rules, tests}
-use Rattle.std.proofs.lemmas.Iterator.{YieldsList-from_slice}
-use Rattle.std.proofs.lemmas.Iterator.Search.{position_from_yields_List}
-use Rattle.std.specs.List.{position}
-use Rattle.rules.specs.Book.{live}
-use Rattle.table.proofs.Counts.{vacant_position}
+use Rattle.std.proofs.Common.{◌≡◌, ◌<◌, length, ap, subst, arith, rules}
+use Rattle.std.proofs.lemmas.List.{get_or-take, take_all}
+use Rattle.std.proofs.lemmas.List.Sums.{count_by_more_yes}
+use Rattle.rules.specs.Book.{live, taken}
+use Rattle.table.proofs.Counts.{taken_less}
 use Rattle.table.proofs.orders.Orders.vacancy.Goals as goal
 
-pub returns : goal.returns
-returns c =
-    let s = c.args.self.now in
-    let is : c.position.result ≡ position (λ o. not (live o)) s.places = position_from_yields_List (λ o. not (live o)) _ _ c.position.result c.position.ensures.ran (YieldsList-from_slice s.places cc) (λ x r q k. search (rules, tests)) in
-    vacant_position s.places c.position.result is s.full s.clean
+pub returns-then-not-rests : goal.returns-then-not-rests
+returns-then-not-rests c = search (rules, taken_less, get_or-take)
+
+pub loop-i-preserved : goal.loop-i-preserved
+loop-i-preserved c = search (rules, count_by_more_yes, get_or-take)
+
+pub returns-then-self-lt64 : goal.returns-then-self-lt64
+returns-then-self-lt64 c =
+    let b = c.args.self.now.places in
+    let n = c.args.self.now.extent in
+    let is = c.args.self.now.beyond n (search rules) in
+    let long : n < length b = search rules in
+    (search rules, is, subst (λ m. taken b < m) c.args.self.now.full (taken_less b n long (ap live is)))
+
+pub returns-else-self-lt64 : goal.returns-else-self-lt64
+returns-else-self-lt64 c =
+    let all : c.loop-i.i ≡ length c.args.self.now.places = search rules in
+    search (rules, take_all)
