@@ -8,20 +8,20 @@ value_push : (ds : List ℕ) (d : ℕ) → value_of (ds ++ d ∷ []) ≡ 10 * va
 value_push ds d = ap from_last (reverse-append ds (d ∷ []))
 
 -- the digits before the last, and the last
-value_last : (ds : List ℕ) → 0 < length ds → value_of ds ≡ 10 * value_of (take (length ds - 1) ds) + (get_or ds (length ds - 1) 0 - 48)
+pub value_last : (ds : List ℕ) → 0 < length ds → value_of ds ≡ 10 * value_of (take (length ds - 1) ds) + (get_or ds (length ds - 1) 0 - 48)
 value_last ds some =
     let h : length ds - 1 < length ds = omega arith in
     let back : length ds - 1 + 1 ≡ length ds = omega arith in
     let whole : ds ≡ take (length ds - 1) ds ++ get_or ds (length ds - 1) 0 ∷ [] = sym (take_all (length ds) ds (omega arith)) ∙ ap (λ n. take n ds) (sym back) ∙ take_more ds (length ds - 1) 0 h in
     ap value_of whole ∙ value_push (take (length ds - 1) ds) (get_or ds (length ds - 1) 0)
 
-front_digits : (ds : List ℕ) → 0 < length ds → AllDigits ds → AllDigits (take (length ds - 1) ds)
+pub front_digits : (ds : List ℕ) → 0 < length ds → AllDigits ds → AllDigits (take (length ds - 1) ds)
 front_digits ds some all k h =
     let long = length-take-le (length ds - 1) ds (omega arith) in
     let low : k < length ds - 1 = omega arith in
     rw get_or-take (all k (omega arith))
 
-value_none : (ds : List ℕ) → length ds ≡ 0 → value_of ds ≡ 0
+pub value_none : (ds : List ℕ) → length ds ≡ 0 → value_of ds ≡ 0
 value_none ds none = ap value_of (nil_from_length ds none)
 
 -- n digits say less than 10 ^ n

@@ -1,5 +1,5 @@
 // A line's fields as the sorts that are asked for.
-ghost use Rattle.std.specs.Prelude.{◌≡◌, ℕ, ◌+◌, Result, OnOk};
+ghost use Rattle.std.specs.Prelude.{◌≡◌, ℕ, ◌+◌, ◌≤◌, Result, OnOk};
 ghost use Rattle.values.specs.declared.faults.LineFault.{LineFault};
 ghost use Rattle.lines.specs.Words.{Word};
 ghost use Rattle.lines.specs.Handing.{word_in, left_of};
@@ -45,6 +45,7 @@ impl Fields<'_> {
         ensures value { result ≡ first_by T.read_by (left_of self.old.rest) self.old.place }
         ensures left { left_of self.new.rest ≡ rest_of (left_of self.old.rest) }
         ensures place { OnOk result (self.new.place ≡ self.old.place + 1) }
+        ensures near { self.new.place ≤ self.old.place + 1 }
     {
         let missing = self.place + 1;
         let (field, place) = self.next().ok_or(LineFault::Unreadable { field: missing })?;
