@@ -55,8 +55,8 @@ fn next_slip(slip: Slip, sent: u32) -> Slip
 }
 
 // Each exchange gets its share, in ascending number, while any remain; how many are left.
-fn share_out(first: Slip, side: Side, quotes: &[Quote; 15], slips: &mut AppendList<'_, Slip>) -> u32
-    requires { (first.exchange ≡ 1) × ((first.number ≤ 15000001) × (used slips.old + 15 ≤ capacity slips.old)) }
+fn share_out(first: Slip, side: Side, quotes: &[Quote], slips: &mut AppendList<'_, Slip>) -> u32
+    requires { (length quotes.now ≡ 15) × ((first.exchange ≡ 1) × ((first.number ≤ 15000001) × (used slips.old + 15 ≤ capacity slips.old))) }
     ensures slips { Grown slips.old (all_shares side quotes.now first) slips.new }
     ensures left { result + total (all_shares side quotes.now first) ≡ first.size }
 {
@@ -79,13 +79,13 @@ fn goes_out(routable: bool, best: Bests, order: &Order) -> bool
 // The slips for the rest of an order, where it may go out; what is left of the order.
 pub fn route(
     routable: bool,
-    quotes: &[Quote; 15],
+    quotes: &[Quote],
     best: Bests,
     numbered: u32,
     order: Order,
     slips: &mut AppendList<'_, Slip>,
 ) -> Order
-    requires { (numbered ≤ 15000000) × (used slips.old + 15 ≤ capacity slips.old) }
+    requires { (length quotes.now ≡ 15) × ((numbered ≤ 15000000) × (used slips.old + 15 ≤ capacity slips.old)) }
     ensures slips { Grown slips.old (routing routable quotes.now best numbered order) slips.new }
     ensures left { result ≡ with_rem order (order.remaining - total (routing routable quotes.now best numbered order)) }
 {

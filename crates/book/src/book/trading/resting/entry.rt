@@ -41,16 +41,17 @@ fn entered_as(arrival: u32, terms: Terms) -> Order
 
 impl Book {
     // The passed order is spent: it is announced, trades, goes out in slips, and rests or is cancelled.
+    // The fifteen quotes in a slice, whatever memory they lie in: an array would ask its callers to convert.
     pub fn enter(
         &mut self,
         passed: Passed,
         entry: Entry,
         away: Away,
-        quotes: &[Quote; 15],
+        quotes: &[Quote],
         reports: &mut AppendList<'_, Report>,
         slips: &mut AppendList<'_, Slip>,
     )
-        requires { (entry.place < 64) × ((entry.numbered ≤ 15000000) × ((used reports.old + 128 ≤ capacity reports.old) × (used slips.old + 15 ≤ capacity slips.old))) }
+        requires { (entry.place < 64) × ((entry.numbered ≤ 15000000) × ((length quotes.now ≡ 15) × ((used reports.old + 128 ≤ capacity reports.old) × (used slips.old + 15 ≤ capacity slips.old)))) }
         ensures { (R : ℕ → Bool) → On R away → Dealt (enter away.best R (routing entry.routable quotes.now away.best entry.numbered) entry.place entry.arrival (terms_of passed) (orders_of self.old)) (orders_of self.new) reports.old reports.new slips.old slips.new }
     {
         let terms = terms_of(passed);
