@@ -161,12 +161,13 @@ fn append_block(out: &mut Vec<u8>, line: &[u8; 128], start: usize) -> Result<(),
     Ok(())
 }
 
-// By the block where there is room for it, so that the vector never grows for bytes that are cut off again.
+// By the block where there is room for it, so that the vector never grows for bytes that are cut off again. The first line
+// goes by the block too: memory that begins at 64 bytes grows to powers of two, and not to multiples of that line.
 fn append_within(out: &mut Vec<u8>, line: &[u8; 128], start: usize) -> Result<(), AllocError>
     requires { start ≤ 64 }
     ensures { OnOk result (out.new.items ≡ out.old.items ++ text_from start line.now) }
 {
-    if out.capacity() - out.len() < 64 {
+    if out.capacity() > 0 && out.capacity() - out.len() < 64 {
         append_text(out, line, start)
     } else {
         append_block(out, line, start)
