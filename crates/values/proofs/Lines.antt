@@ -31,6 +31,12 @@ put_first n i all xs h some in-it long so_far =
     let tab = put_before ys (i - 1) 9 (omega arith) (omega arith) (omega (arith, length-set xs (i - 1) (48 + n))) in
     subst (λ k. text_from k (set ys k 9) ≡ 9 ∷ text_from (i - 1) ys) e tab ∙ ap (λ l. 9 ∷ l) (one ∙ ap (λ ds. ds ++ text_from i xs) (sym (decimal_digit n h)) ∙ sym so_far)
 
+-- the text itself is copied
+pub sliced : (line : List ℕ) (i : ℕ) → i ≤ 64 → take (64 - i) (drop i line) ≡ text_from i line
+sliced line i in-it =
+    let e : i + (64 - i) ≡ 64 = omega arith in
+    sym (drop-take i (64 - i) line) ∙ ap (λ k. drop i (take k line)) e
+
 take_past : (xs ys : List ℕ) (n : ℕ) → take (length xs + n) (xs ++ ys) ≡ xs ++ take n ys
 take_past [] ys n = ap (λ k. take k ys) (zero-add n)
 take_past (x ∷ xs) ys n = ap (λ k. take k (x ∷ (xs ++ ys))) (suc-add (length xs) n) ∙ ap (λ l. x ∷ l) (take_past xs ys n)
@@ -38,8 +44,7 @@ take_past (x ∷ xs) ys n = ap (λ k. take k (x ∷ (xs ++ ys))) (suc-add (lengt
 -- 64 bytes from a place on are appended, and all but the text is cut off
 pub cut : (was line : List ℕ) (i m n : ℕ) → i ≤ 64 → m ≡ 64 → n ≡ length was + (64 - i) → take n (was ++ take m (drop i line)) ≡ was ++ text_from i line
 cut was line i m n in-it all is =
-    let e : i + (64 - i) ≡ 64 = omega arith in
-    ap (λ k. take k (was ++ take m (drop i line))) is ∙ take_past was (take m (drop i line)) (64 - i) ∙ ap (λ l. was ++ l) (take-take (64 - i) m (drop i line) (omega arith) ∙ sym (drop-take i (64 - i) line) ∙ ap (λ k. drop i (take k line)) e)
+    ap (λ k. take k (was ++ take m (drop i line))) is ∙ take_past was (take m (drop i line)) (64 - i) ∙ ap (λ l. was ++ l) (take-take (64 - i) m (drop i line) (omega arith) ∙ sliced line i in-it)
 
 -- what follows a list of numbers may be written before or after
 pub numbered-append : (ns rest end : List ℕ) → numbered ns rest ++ end ≡ numbered ns (rest ++ end)

@@ -161,13 +161,25 @@ fn append_block(out: &mut Vec<u8>, line: &[u8; 128], start: usize) -> Result<(),
     Ok(())
 }
 
-// By the block where there is room for it, so that the vector never grows for bytes that are cut off again. The first line
-// goes by the block too: memory that begins at 64 bytes grows to powers of two, and not to multiples of that line.
+// The same a byte at a time, so that memory grows from eight bytes to powers of two, and not to multiples of a line.
+fn append_bytes(out: &mut Vec<u8>, line: &[u8; 128], start: usize) -> Result<(), AllocError>
+    requires { start ≤ 64 }
+    ensures { OnOk result (out.new.items ≡ out.old.items ++ text_from start line.now) }
+{
+    for byte in &line[start..64] {
+        out.push(*byte)?;
+    }
+    Ok(())
+}
+
+// By the block where there is room for it, so that the vector never grows for bytes that are cut off again.
 fn append_within(out: &mut Vec<u8>, line: &[u8; 128], start: usize) -> Result<(), AllocError>
     requires { start ≤ 64 }
     ensures { OnOk result (out.new.items ≡ out.old.items ++ text_from start line.now) }
 {
-    if out.capacity() > 0 && out.capacity() - out.len() < 64 {
+    if out.capacity() < 64 {
+        append_bytes(out, line, start)
+    } else if out.capacity() - out.len() < 64 {
         append_text(out, line, start)
     } else {
         append_block(out, line, start)
